@@ -1,0 +1,86 @@
+use crate::memory::Memory;
+use std::alloc::AllocError;
+use thiserror::Error;
+
+/// What a guest file has too much of.
+#[derive(Clone, Copy, Debug, PartialEq, Eq)]
+pub enum What {
+    Slots,
+    Pages,
+    Copies,
+    Vcpus,
+    Ops,
+}
+
+/// Why a guest file is refused: its first fault in the order of its lines, which are numbered from 1.
+/// `no` is a line's number, `a` and `b` are slot ids.
+#[derive(Clone, Copy, Debug, PartialEq, Eq, Error)]
+pub enum FileFault {
+    #[error("line {no}: expected `dirtyguest 1`")]
+    Magic { no: u64 },
+    #[error("line {no}: this line may not stand here, or has the wrong number of words")]
+    Line { no: u64 },
+    #[error("line {no}: a word is not a number of its place, or out of its range")]
+    Number { no: u64 },
+    #[error("line {no}: the ring's size is no power of two from 4 to 65536")]
+    RingSize { no: u64 },
+    #[error("line {no}: reserve and buffer leave no room in the ring")]
+    Reserve { no: u64 },
+    #[error("line {no}: a slot with this id stands above")]
+    SlotTwice { no: u64 },
+    #[error("slots {a} and {b} overlap")]
+    Overlap { a: u32, b: u32 },
+    #[error("line {no}: the page lies in no slot")]
+    Unmapped { no: u64 },
+    #[error("line {no}: the bytes don't lie in one page")]
+    CrossPage { no: u64 },
+    #[error("line {no}: too many {what:?}")]
+    TooLarge { what: What, no: u64 },
+    #[error("out of memory")]
+    Memory,
+}
+
+impl From<AllocError> for FileFault {
+    ghost use Rattle.std.specs.Prelude.{◌≡◌};
+    ghost use Rattle.dr_types.specs.declared.fault.FileFault.TheVariants.{Memory};
+
+    ghost from_gives = { λ _ fault. fault ≡ Memory };
+
+    fn from(_error: AllocError) -> FileFault {
+        FileFault::Memory
+    }
+}
+
+impl From<Memory> for FileFault {
+    ghost use Rattle.std.specs.Prelude.{◌≡◌};
+    ghost use Rattle.dr_types.specs.declared.fault.FileFault.TheVariants.{Memory};
+
+    ghost from_gives = { λ _ fault. fault ≡ Memory };
+
+    fn from(_error: Memory) -> FileFault {
+        FileFault::Memory
+    }
+}
+
+/// Why a migration stream is refused. `at` is the place of a byte, from 0.
+#[derive(Clone, Copy, Debug, PartialEq, Eq, Error)]
+pub enum StreamFault {
+    #[error("the stream doesn't begin with `DRSTREAM`")]
+    Magic,
+    #[error("the stream's version is {said}, and only 1 is read")]
+    Version { said: u32 },
+    #[error("the stream says {said} pages, and 1 to 16384 may be")]
+    Pages { said: u32 },
+    #[error("byte {at}: the stream ends inside a part")]
+    Cut { at: u64 },
+    #[error("byte {at}: no record is of this kind")]
+    Kind { at: u64 },
+    #[error("byte {at}: this record may not stand here")]
+    Place { at: u64 },
+    #[error("the stream says {said} page records, and has {seen}")]
+    Count { said: u32, seen: u32 },
+    #[error("byte {at}: something follows the end record")]
+    After { at: u64 },
+    #[error("out of memory")]
+    Memory,
+}

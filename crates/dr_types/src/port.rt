@@ -1,0 +1,8 @@
+/// Where bytes go.
+#[derive(Clone, Copy, Debug, PartialEq, Eq)]
+pub enum Port {
+    Report,
+    Stream,
+    Image,
+    Journal,
+}
