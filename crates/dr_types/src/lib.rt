@@ -5,6 +5,7 @@
 mod entry;
 mod fault;
 mod guest;
+mod hexed;
 pub mod limits;
 mod list;
 mod memory;
@@ -19,6 +20,7 @@ pub use fault::{FileFault, StreamFault, What};
 pub use guest::{
     Guest, Item, Op, OpList, PageList, Script, ScriptList, Settings, SlotList, SlotRow, Why,
 };
+pub use hexed::hex_of;
 pub use list::{Bytes, Listed, NumberList};
 pub use memory::Memory;
 pub use port::Port;

@@ -1,0 +1,11 @@
+pub mod ReadingParts
+pub mod SettingsValid
+pub mod SlotParts
+pub mod SlotSteps
+pub mod SlotsValid
+pub mod OpsValid
+pub mod SectionState
+pub mod SectionParts
+pub mod SectionSteps
+pub mod SectionsValid
+pub mod GuestValid

@@ -1,0 +1,45 @@
+-- What the steps of reading gave, where reading gave something.
+use Rattle.std.proofs.Common.{◌≡◌, ℕ, ◌≤◌, Bool, true, false, ◌&&◌, Option, Some, None, Result, Ok, Err, refl, List, arith}
+use Rattle.std.specs.Prelude.{nat_le, if◌then◌else◌}
+use Rattle.std.specs.Option.{ok_or}
+use Rattle.std.proofs.lemmas.Bool.{leb-true}
+use Rattle.dr_types.specs.declared.fault.FileFault.{FileFault}
+use Rattle.dr_guestlines.specs.Numbers.{decimal_number, within}
+use Rattle.dr_guestlines.specs.Reading.{◌>>=◌, check, number_of}
+
+-- the first step gave something, and the next gave the rest of it
+pub record Steps {A B : Type 0} (m : Result A FileFault) (f : A → Result B FileFault) (y : B) : Type 0 where
+  pub value : A
+  pub is : m ≡ Ok value
+  pub next : f value ≡ Ok y
+
+pub steps : {A B : Type 0} (m : Result A FileFault) (f : A → Result B FileFault) (y : B) → (m >>= f) ≡ Ok y → Steps m f y
+steps (Ok x) f y e = record { value = x; is = refl; next = e }
+steps (Err x) f y e = absurd cc
+
+pub passed : (test : Bool) (e : FileFault) (u : Unit {0}) → check test e ≡ Ok u → test ≡ true
+passed true e u is = refl
+passed false e u is = absurd cc
+
+pub given : {A : Type 0} (found : Option A) (e : FileFault) (x : A) → ok_or found e ≡ Ok x → found ≡ Some x
+given (Some y) e x is = cc
+given None e x is = absurd cc
+
+pub both : (a b : Bool) → (a && b) ≡ true → (a ≡ true) × (b ≡ true)
+both true b e = (refl, e)
+both false b e = absurd cc
+
+in_range_at : (low high m n : ℕ) (a b : Bool) → nat_le low m ≡ a → nat_le m high ≡ b → (if a && b then Some m else None) ≡ Some n → (low ≤ n) × (n ≤ high)
+in_range_at low high m n true true above below e =
+    let same : m ≡ n = cc in
+    (omega (arith, leb-true low m above), omega (arith, leb-true m high below))
+in_range_at low high m n true false above below e = absurd cc
+in_range_at low high m n false b above below e = absurd cc
+
+in_range : (low high n : ℕ) (number : Option ℕ) → within low high number ≡ Some n → (low ≤ n) × (n ≤ high)
+in_range low high n None e = absurd cc
+in_range low high n (Some m) e = in_range_at low high m n (nat_le low m) (nat_le m high) refl refl e
+
+-- a number that was read is in its range
+pub number_range : (low high : ℕ) (word : List ℕ) (line n : ℕ) → number_of low high word line ≡ Ok n → (low ≤ n) × (n ≤ high)
+number_range low high word line n e = in_range low high n (decimal_number word) (given (within low high (decimal_number word)) _ n e)

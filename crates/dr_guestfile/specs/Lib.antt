@@ -1,0 +1,6 @@
+pub mod Keywords
+pub mod SettingLines
+pub mod SlotLines
+pub mod OpLines
+pub mod ScriptLines
+pub mod GuestTexts

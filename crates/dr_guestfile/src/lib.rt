@@ -1,0 +1,15 @@
+//! The guest file: what a text says of a guest, and its first fault where it says none. The
+//! canonical text of a guest is handed on.
+#![tactic(auto)]
+
+mod keyword;
+mod law;
+mod ops;
+mod reading;
+mod scripts;
+mod settings;
+mod slot_lines;
+
+pub use dr_guesttext::write_guest;
+pub use law::read_is_valid;
+pub use reading::read_guest;

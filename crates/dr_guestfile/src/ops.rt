@@ -1,0 +1,147 @@
+ghost use Rattle.std.specs.Prelude.{◌≡◌, ◌/◌};
+ghost use Rattle.dr_guestfile.specs.OpLines.{placed, write_of, fill_of, read_of, add_of, store_of, nap_of, halt_of, op_of, going_on, op_of_body};
+
+use crate::keyword::Keyword;
+use dr_guestlines::{Words, hex_byte, hex_word, number};
+use dr_slots::Slots;
+use dr_types::limits::LONGEST_NAP_US;
+use dr_types::{FileFault, Op};
+
+/// The faults of so many bytes from an address.
+fn place(slots: &Slots, address: u64, bytes: u32, no: u64) -> Result<(), FileFault>
+    ensures { result ≡ placed slots.now address bytes no }
+{
+    if slots.page_of(address).is_none() {
+        return Err(FileFault::Unmapped { no });
+    }
+    if address % 4096 + u64::from(bytes) > 4096 {
+        return Err(FileFault::CrossPage { no });
+    }
+    Ok(())
+}
+
+/// `w ADDR HEX`
+#[tactic(auto, unfolding(crate::specs::OpLines::write_of))]
+fn write(slots: &Slots, arguments: Words<'_>, no: u64) -> Result<Op, FileFault>
+    ensures { result ≡ write_of slots.now arguments.entry no }
+{
+    let (address, bytes) = arguments.two().ok_or(FileFault::Line { no })?;
+    let addr = number(address, 0, u64::MAX).ok_or(FileFault::Number { no })?;
+    let (len, value) = hex_word(bytes, 8).ok_or(FileFault::Number { no })?;
+    place(slots, addr, len, no)?;
+    Ok(Op::W { addr, len, value })
+}
+
+/// `f GFN HH`
+#[tactic(auto, unfolding(crate::specs::OpLines::fill_of))]
+fn fill(slots: &Slots, arguments: Words<'_>, no: u64) -> Result<Op, FileFault>
+    ensures { result ≡ fill_of slots.now arguments.entry no }
+{
+    let (frame, byte) = arguments.two().ok_or(FileFault::Line { no })?;
+    let gfn = number(frame, 0, u64::MAX).ok_or(FileFault::Number { no })?;
+    let byte = hex_byte(byte).ok_or(FileFault::Number { no })?;
+    if slots.page_of_frame(gfn).is_none() {
+        return Err(FileFault::Unmapped { no });
+    }
+    Ok(Op::F { gfn, byte })
+}
+
+/// `r ADDR`
+#[tactic(auto, unfolding(crate::specs::OpLines::read_of))]
+fn read(slots: &Slots, arguments: Words<'_>, no: u64) -> Result<Op, FileFault>
+    ensures { result ≡ read_of slots.now arguments.entry no }
+{
+    let address = arguments.one().ok_or(FileFault::Line { no })?;
+    let addr = number(address, 0, u64::MAX).ok_or(FileFault::Number { no })?;
+    place(slots, addr, 8, no)?;
+    Ok(Op::R { addr })
+}
+
+/// `a N`
+#[tactic(auto, unfolding(crate::specs::OpLines::add_of))]
+fn add(arguments: Words<'_>, no: u64) -> Result<Op, FileFault>
+    ensures { result ≡ add_of arguments.entry no }
+{
+    let word = arguments.one().ok_or(FileFault::Line { no })?;
+    let n = number(word, 0, u64::MAX).ok_or(FileFault::Number { no })?;
+    Ok(Op::A { n })
+}
+
+/// `s ADDR`
+#[tactic(auto, unfolding(crate::specs::OpLines::store_of))]
+fn store(slots: &Slots, arguments: Words<'_>, no: u64) -> Result<Op, FileFault>
+    ensures { result ≡ store_of slots.now arguments.entry no }
+{
+    let address = arguments.one().ok_or(FileFault::Line { no })?;
+    let addr = number(address, 0, u64::MAX).ok_or(FileFault::Number { no })?;
+    place(slots, addr, 8, no)?;
+    Ok(Op::S { addr })
+}
+
+/// `nap US`
+#[tactic(auto, unfolding(crate::specs::OpLines::nap_of))]
+fn nap(arguments: Words<'_>, no: u64) -> Result<Op, FileFault>
+    ensures { result ≡ nap_of arguments.entry no }
+{
+    let word = arguments.one().ok_or(FileFault::Line { no })?;
+    let us = number(word, 0, u64::from(LONGEST_NAP_US)).ok_or(FileFault::Number { no })?;
+    Ok(Op::Nap { us: us as u32 })
+}
+
+/// `halt`
+#[tactic(auto, unfolding(crate::specs::OpLines::halt_of))]
+fn halt(arguments: Words<'_>, no: u64) -> Result<Op, FileFault>
+    ensures { result ≡ halt_of arguments.entry no }
+{
+    if arguments.is_empty() {
+        Ok(Op::Halt)
+    } else {
+        Err(FileFault::Line { no })
+    }
+}
+
+/// The op of a line that begins with this keyword.
+#[tactic(auto, unfolding(crate::specs::OpLines::op_of))]
+pub fn op(
+    slots: &Slots,
+    keyword: Option<Keyword>,
+    arguments: Words<'_>,
+    no: u64,
+) -> Result<Op, FileFault>
+    ensures { result ≡ op_of slots.now keyword arguments.entry no }
+{
+    match keyword {
+        Some(Keyword::Write) => write(slots, arguments, no),
+        Some(Keyword::Fill) => fill(slots, arguments, no),
+        Some(Keyword::Read) => read(slots, arguments, no),
+        Some(Keyword::Add) => add(arguments, no),
+        Some(Keyword::Store) => store(slots, arguments, no),
+        Some(Keyword::Nap) => nap(arguments, no),
+        Some(Keyword::Halt) => halt(arguments, no),
+        _ => Err(FileFault::Line { no }),
+    }
+}
+
+/// The op, unless it ends the script.
+fn no_halt(op: Op, no: u64) -> Result<Op, FileFault>
+    ensures { result ≡ going_on no op }
+{
+    match op {
+        Op::Halt => Err(FileFault::Line { no }),
+        _ => Ok(op),
+    }
+}
+
+/// The op of a line in a repeated part, where `halt` may not stand.
+#[tactic(auto, unfolding(crate::specs::OpLines::op_of_body))]
+pub fn body_op(
+    slots: &Slots,
+    keyword: Option<Keyword>,
+    arguments: Words<'_>,
+    no: u64,
+) -> Result<Op, FileFault>
+    ensures { result ≡ op_of_body slots.now keyword arguments.entry no }
+{
+    let op = op(slots, keyword, arguments, no)?;
+    no_halt(op, no)
+}

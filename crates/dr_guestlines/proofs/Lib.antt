@@ -1,0 +1,3 @@
+pub mod WordParts
+pub mod LineParts
+pub mod Numerals

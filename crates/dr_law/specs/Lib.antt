@@ -1,0 +1,13 @@
+pub mod Outstanding
+pub mod Agreement
+pub mod Stop
+pub mod Switch
+pub mod Answer
+pub mod Order
+pub mod Length
+pub mod Room
+pub mod Limits
+pub mod Cover
+pub mod First
+pub mod Unsent
+pub mod Copies

@@ -1,0 +1,4 @@
+pub mod Reading
+pub mod Repeats
+pub mod Runs
+pub mod Fits

@@ -1,0 +1,4 @@
+pub mod Pages
+pub mod Within
+pub mod AllPages
+pub mod Inverses

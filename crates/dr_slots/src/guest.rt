@@ -1,0 +1,33 @@
+//! The pages of a guest.
+
+ghost use Rattle.std.specs.Prelude.{◌≡◌, ◌<◌, ◌^◌, IfSome};
+ghost use Rattle.dr_types.specs.Pages.{page_of_frame, page_of_address, page_count};
+
+use crate::rows::{frame_page, pages_in};
+use dr_types::Guest;
+
+/// How many pages the slots have together.
+pub fn page_count(guest: &Guest) -> u32
+    requires { page_count guest.now < 2 ^ 32 }
+    ensures { result ≡ page_count guest.now }
+{
+    pages_in(guest.slots.as_slice())
+}
+
+/// The page of a guest frame, where it lies in a slot.
+pub fn page_of_frame(guest: &Guest, frame: u64) -> Option<u32>
+    requires { page_count guest.now < 2 ^ 32 }
+    ensures is { result ≡ page_of_frame guest.now.slots frame }
+    ensures within { IfSome result (λ page. page < page_count guest.now) }
+{
+    frame_page(guest.slots.as_slice(), frame)
+}
+
+/// The page that an address lies in, where it lies in a slot.
+pub fn page_of_address(guest: &Guest, address: u64) -> Option<u32>
+    requires { page_count guest.now < 2 ^ 32 }
+    ensures is { result ≡ page_of_address guest.now address }
+    ensures within { IfSome result (λ page. page < page_count guest.now) }
+{
+    page_of_frame(guest, address / 4096)
+}
