@@ -1,0 +1,34 @@
+ghost use Rattle.std.specs.Prelude.{◌≡◌, ◌≤◌, ◌<◌, true, IfOk, IfErr, Option, List, ℕ};
+ghost use Rattle.dirtyring_cli.specs.Top.{IsRead, IsRefusal};
+
+use dr_guestfile::read_guest;
+use dr_io::{ReadFault, Source, read_all};
+use dr_run::is_built;
+use dr_types::limits::MOST_GUEST_BYTES;
+use dr_types::{FileFault, Guest, Status};
+use std::alloc::Global;
+
+/// Reads a source to its end, and the guest that its bytes say. The status says why there is none that
+/// is run.
+pub fn read_input<S: Source>(alloc: Global, source: &mut S) -> Result<Guest, Status>
+    ensures read { IfOk result (λ guest. IsRead (S.left source.old) guest) }
+    ensures refusal {
+        IfErr result (λ s. IsRefusal s (S.left source.old) (S.faults source.old) (S.faults source.new))
+    }
+{
+    let bytes = match read_all(alloc, source, MOST_GUEST_BYTES) {
+        Ok(bytes) => bytes,
+        Err(ReadFault::Failed) => return Err(Status::Source),
+        Err(ReadFault::TooLong) => return Err(Status::TooLong),
+        Err(ReadFault::Memory) => return Err(Status::Memory),
+    };
+    let guest = match read_guest(alloc, bytes.as_slice()) {
+        Ok(guest) => guest,
+        Err(FileFault::Memory) => return Err(Status::Memory),
+        Err(why) => return Err(Status::GuestFile(why)),
+    };
+    if !is_built(&guest) {
+        return Err(Status::Unbuilt);
+    }
+    Ok(guest)
+}

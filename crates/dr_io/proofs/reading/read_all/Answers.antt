@@ -1,0 +1,33 @@
+use Rattle.std.proofs.Common.{rules, ◌≡◌, ◌≤◌, ◌<◌, ℕ, ◌+◌, length, ◌++◌, take, arith}
+use Rattle.std.proofs.lemmas.Grind.{common_steps}
+use Rattle.dr_io.proofs.Taking.{Taken, take_more, all_taken, too_many, cut_short, no_room}
+use Rattle.dr_io.proofs.reading.read_all.Goals as goal
+
+pub returns-then-len-limit : goal.returns-then-len-limit
+returns-then-len-limit g c =
+    let added : c.append.new.self ≡ c.loop-turn.all ++ take c.in-Bytes.n c.read.new.buf = grind (arith, common_steps) in
+    let t = take_more _ _ _ _ _ _ _ _ _ _ c.loop-turn.invariant.0 c.read.ensures c.in-Bytes.is in
+    too_many _ _ _ _ _ c.append.new.self (rw added t) (grind (arith, common_steps))
+
+pub loop-turn-preserved : goal.loop-turn-preserved
+loop-turn-preserved g c =
+    let added : c.append.new.self ≡ c.loop-turn.all ++ take c.in-Bytes.n c.read.new.buf = grind (arith, common_steps) in
+    let t = take_more _ _ _ _ _ _ _ _ _ _ c.loop-turn.invariant.0 c.read.ensures c.in-Bytes.is in
+    (rw added t, grind (arith, common_steps), grind (arith, common_steps), grind (arith, common_steps))
+
+pub returns-in-End-read : goal.returns-in-End-read
+returns-in-End-read g c = all_taken _ _ _ _ _ _ _ _ _ _ c.loop-turn.invariant.0 c.read-2.ensures c.in-End-read.is c.loop-turn.invariant.2
+
+pub returns-in-Bytes-read : goal.returns-in-Bytes-read
+returns-in-Bytes-read g c =
+    let t = take_more _ _ _ _ _ _ _ _ _ _ c.loop-turn.invariant.0 c.read-2.ensures c.in-Bytes-read.is in
+    too_many _ _ _ _ _ _ t (grind (arith, common_steps))
+
+pub returns-in-Failed : goal.returns-in-Failed
+returns-in-Failed g c = cut_short _ _ _ _ _ _ _ _ _ _ c.loop-turn.invariant.0 c.read.ensures c.in-Failed.is c.loop-turn.invariant.2
+
+pub returns-in-Failed-read : goal.returns-in-Failed-read
+returns-in-Failed-read g c = cut_short _ _ _ _ _ _ _ _ _ _ c.loop-turn.invariant.0 c.read-2.ensures c.in-Failed-read.is c.loop-turn.invariant.2
+
+pub returns-then-is_err : goal.returns-then-is_err
+returns-then-is_err g c = no_room _ _ _ _ _ _ (take_more _ _ _ _ _ _ _ _ _ _ c.loop-turn.invariant.0 c.read.ensures c.in-Bytes.is)

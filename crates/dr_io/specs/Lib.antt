@@ -1,0 +1,5 @@
+pub mod Numbers
+pub mod Puts
+pub mod Reading
+pub mod Feed
+pub mod Book

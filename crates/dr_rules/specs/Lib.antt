@@ -1,0 +1,4 @@
+pub mod Sizes
+pub mod Tests
+pub mod Answered
+pub mod Judging

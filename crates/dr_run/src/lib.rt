@@ -1,0 +1,12 @@
+//! The run of a guest whose vCPUs halt before logging starts: from the first op to the switch-over,
+//! over the judge of events, with the stream's records put as they arise.
+#![tactic(auto)]
+
+mod built;
+mod execution;
+mod migration;
+mod run;
+
+pub use built::is_built;
+pub use migration::{RunEnd, run_halting};
+pub use run::RunFault;

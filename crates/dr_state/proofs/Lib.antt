@@ -1,0 +1,13 @@
+pub mod Tables
+pub mod Turns
+pub mod Maps
+pub mod Cells
+pub mod Protects
+pub mod Runs
+pub mod Opens
+pub mod Nexts
+pub mod Holds
+pub mod Stored
+pub mod Firsts
+pub mod Fits
+pub mod Valid

@@ -1,0 +1,56 @@
+-- What is kept of the pages, so that nobody looks back.
+use Rattle.std.specs.Prelude.{◌≡◌, ℕ, ◌*◌, ◌/◌, ◌%◌, ◌<◌, ◌≤◌, Bool, List, Option, None}
+use Rattle.dr_history.specs.declared.event.Event.{Event}
+use Rattle.dr_history.specs.declared.event.Event.TheVariants.{Start, Paint, Opened, Filled, Reset, Flushed, Copied}
+use Rattle.dr_history.specs.Entries.{page_of_entry}
+use Rattle.dr_history.specs.Protection as shield
+use Rattle.dr_history.specs.Dirty as log
+use Rattle.dr_state.specs.Rows.{table}
+use Rattle.dr_state.specs.declared.shield.Protection.{Protection}
+
+-- the flags of so many vCPUs and pages, the pages of the first vCPU before those of the second
+abbrev pub cached_cell : ℕ → List Event → ℕ → Bool
+cached_cell pages past cell = shield.cached (cell / pages) (cell % pages) past
+
+-- each flag is what the events say
+pub record AreFlags (n p : ℕ) (past : List Event) (opened cached closing dirty : List Bool) : Type 0 where
+  pub is_opened : opened ≡ table (λ page. shield.opened_last page past) p
+  pub is_cached : cached ≡ table (cached_cell p past) (n * p)
+  pub is_closing : closing ≡ table (λ page. shield.closing page past) p
+  pub is_dirty : dirty ≡ table (λ page. log.dirty page past) p
+
+-- what is kept are the flags that the events say
+abbrev pub IsProtection : List Event → Protection → Type 0
+IsProtection past it = AreFlags it.vcpus it.pages past it.opened.items it.cached it.closing.0 it.dirty.items
+
+-- the page of the entry that an event resets
+abbrev pub page_reset : Event → List Event → Option ℕ
+page_reset (Reset v k) past = page_of_entry v k past
+page_reset e past = None
+
+-- the page that an event names is below n
+abbrev pub IsPageWithin : ℕ → Event → Type 0
+IsPageWithin n (Paint v i page byte) = page < n
+IsPageWithin n (Opened v k page) = page < n
+IsPageWithin n (Filled v page) = page < n
+IsPageWithin n (Copied r page) = page < n
+IsPageWithin n e = Unit {0}
+
+-- there is room for the page that a Reset closes
+abbrev pub ClosingFits : Event → ℕ → Type 0
+ClosingFits (Reset v k) room = 1 ≤ room
+ClosingFits e room = Unit {0}
+
+-- as many vCPUs and pages as before
+abbrev pub SameSizes : Protection → Protection → Type 0
+SameSizes old new = (new.vcpus ≡ old.vcpus) × (new.pages ≡ old.pages)
+
+-- no flag shows the event
+abbrev pub IsUnshielded : List Event → Event → Type 0
+IsUnshielded past (Start at) = ⊥
+IsUnshielded past (Opened v k page) = ⊥
+IsUnshielded past (Filled v page) = ⊥
+IsUnshielded past (Reset v k) = page_of_entry v k past ≡ None
+IsUnshielded past Flushed = ⊥
+IsUnshielded past (Copied r page) = ⊥
+IsUnshielded past e = Unit {0}

@@ -1,0 +1,118 @@
+ghost use Rattle.std.specs.Prelude.{◌≡◌, ◌<◌, ◌≤◌, ◌^◌, [], ◌∷◌, IfOk, ℕ, List, All, IfSome, OnOk, length, vec_len, Option, None};
+ghost use Rattle.dr_types.specs.declared.guest.Guest.{Guest};
+ghost use Rattle.dr_types.specs.Pages.{page_count};
+ghost use Rattle.dr_history.specs.declared.event.Event.{Event};
+ghost use Rattle.dr_history.specs.Legality.{broken};
+ghost use Rattle.dr_history.specs.Rounds.{answered_pages};
+ghost use Rattle.dr_state.specs.Opened.{OpeningFits, HasRoomAt};
+ghost use Rattle.dr_state.specs.Pages.{ClosingFits, page_reset};
+ghost use Rattle.dr_state.specs.Whole.{IsReplay, IsNamed, CanReplay, CanTake};
+
+use crate::held::Throttles;
+use crate::memory::GuestMemory;
+use crate::replay::Replay;
+use crate::ring::Entries;
+use crate::round_state::Rounds;
+use crate::scripts::Running;
+use crate::shield::Protection;
+use crate::vcpus::Vcpus;
+use dr_history::Event;
+use dr_slots::page_count;
+use dr_types::{Guest, Memory, PageList};
+use std::alloc::Global;
+
+impl Replay {
+    /// The state before any event.
+    pub fn new(alloc: Global, guest: &Guest) -> Result<Replay, Memory>
+        requires { CanReplay guest.now }
+        ensures { IfOk result (λ it. IsReplay guest.now [] it) }
+    {
+        let vcpus = guest.scripts.len();
+        let pages = page_count(guest);
+        Ok(Replay {
+            vcpus: Vcpus::new(alloc, vcpus)?,
+            protection: Protection::new(alloc, vcpus as u32, pages)?,
+            running: Running::new(alloc, guest)?,
+            entries: Entries::new(alloc, vcpus)?,
+            rounds: Rounds::new(guest.settings.threshold),
+            memory: GuestMemory::new(alloc, pages)?,
+            throttles: Throttles::new(alloc, vcpus)?,
+        })
+    }
+
+    /// The page of the entry that an event resets.
+    fn page_reset(&self, e: &Event) -> Option<u32>
+        requires { IsNamed self.now e.now }
+        ensures within { IfSome result (λ page. page < self.now.protection.pages) }
+        ensures is { (guest : Guest) (past : List Event) → IsReplay guest past self.now
+            → result ≡ page_reset e.now past }
+    {
+        match e {
+            Event::Reset { v, k } => below(self.entries.page(*v, *k), self.protection.pages),
+            _ => None,
+        }
+    }
+
+    /// Room for an entry of a vCPU.
+    pub fn make_entry_room(&mut self, v: u32) -> Result<(), Memory>
+        requires { v < vec_len self.old.entries.rows }
+        ensures replay { (guest : Guest) (past : List Event) → IsReplay guest past self.old
+            → IsReplay guest past self.new }
+        ensures ok { OnOk result (HasRoomAt v self.new.entries.rows.items) }
+    {
+        self.entries.make_room(v)
+    }
+
+    /// Room for a page that a reset closes.
+    pub fn make_closing_room(&mut self) -> Result<(), Memory>
+        ensures replay { (guest : Guest) (past : List Event) → IsReplay guest past self.old
+            → IsReplay guest past self.new }
+        ensures ok { OnOk result (1 ≤ self.new.protection.closing.1) }
+    {
+        self.protection.closing.make_room()
+    }
+
+    /// Room for an event.
+    pub fn make_room(&mut self, e: &Event) -> Result<(), Memory>
+        requires { IsNamed self.old e.now }
+        ensures replay { (guest : Guest) (past : List Event) → IsReplay guest past self.old
+            → IsReplay guest past self.new }
+        ensures entry { OnOk result (OpeningFits e.now self.new.entries.rows.items) }
+        ensures closing { OnOk result (ClosingFits e.now self.new.protection.closing.1) }
+    {
+        match e {
+            Event::Opened { v, .. } => self.make_entry_room(*v),
+            Event::Reset { .. } => self.make_closing_room(),
+            _ => Ok(()),
+        }
+    }
+
+    /// Takes an event that breaks no rule, and a copy of its pages.
+    pub fn take(&mut self, guest: &Guest, e: &Event, pages: PageList)
+        requires guest { CanReplay guest.now }
+        requires fits { CanTake guest.now e.now self.old }
+        requires copy { pages ≡ answered_pages e.now }
+        ensures { (past : List Event) → broken guest.now past e.now ≡ None
+            → IsReplay guest.now past self.old → IsReplay guest.now (e.now ∷ past) self.new }
+    {
+        let reset = self.page_reset(e);
+        self.throttles.take(guest, &self.vcpus, e);
+        self.vcpus.take(e);
+        self.protection.take(e, reset);
+        self.running.take(e);
+        self.entries.take(e);
+        self.rounds.take(e, pages);
+        self.memory.take(guest, e);
+    }
+}
+
+/// The number, where it is below this.
+fn below(number: Option<u32>, n: u32) -> Option<u32>
+    ensures within { IfSome result (λ m. m < n) }
+    ensures is { IfSome number (λ m. m < n) → result ≡ number }
+{
+    match number {
+        Some(m) => { if m < n { Some(m) } else { None } }
+        None => None,
+    }
+}

@@ -1,0 +1,18 @@
+-- A put of an outlet as a put of its sender.
+use Rattle.std.proofs.Common.{◌≡◌, ℕ, ◌+◌, List, refl, subst, sym}
+use Rattle.dr_types.specs.declared.port.Port.TheVariants.{Stream}
+use Rattle.dr_types.specs.Ports.{Ports}
+use Rattle.dr_io.specs.declared.outlet.PutTurn.{PutTurn}
+use Rattle.dr_io.specs.Puts.{Puts}
+use Rattle.dr_stream.specs.Sending.{Sending, Sends}
+
+abbrev pub sending : Ports → ℕ → ℕ → Sending
+sending told faults pages = record { told = told; faults = faults; pages = pages }
+
+pub sent : (step : ℕ → ℕ) (was told : Ports) (before now pages : ℕ) (old : Sending) (bytes put : List ℕ) (result : PutTurn)
+    → sending was before pages ≡ old → put ≡ bytes → Puts was before Stream put result told now
+    → Sends old bytes result (sending told now (step pages)) (step old.pages)
+sent step was told before now pages old bytes put result is same puts =
+    let here : Sends (sending was before pages) bytes result (sending told now (step pages)) (step pages) =
+    record { puts = subst (λ xs. Puts was before Stream xs result told now) same puts; counted = refl } in
+    subst (λ start. Sends start bytes result (sending told now (step pages)) (step start.pages)) is here
