@@ -1,5 +1,5 @@
 -- What a command says of its input, and what it leaves on the ports.
-use Rattle.std.specs.Prelude.{◌≡◌, ◌≢◌, ℕ, ◌<◌, ◌≤◌, List, [], ◌∷◌, length, Option, Some, Ok, Err, Bool, true, false}
+use Rattle.std.specs.Prelude.{◌≡◌, ◌≢◌, ℕ, ◌<◌, ◌≤◌, List, [], ◌∷◌, length, Option, Some, Result, Ok, Err, true, false}
 use Rattle.std.specs.List.{list_any}
 use Rattle.dr_types.specs.declared.guest.Guest.{Guest}
 use Rattle.dr_types.specs.declared.port.Port.{Port}
@@ -19,6 +19,8 @@ use Rattle.dr_history.specs.Report.{report_of}
 use Rattle.dr_history.specs.Stream.{stream_of}
 use Rattle.dr_guestfile.specs.GuestTexts.{guest_of}
 use Rattle.dr_run.specs.Built.{is_built_for}
+use Rattle.dr_run.specs.declared.run.RunFault.{RunFault}
+use Rattle.dr_run.specs.declared.run.RunFault.TheVariants as run
 
 -- a guest file has at most so many bytes
 abbrev pub most_bytes : ℕ
@@ -95,3 +97,9 @@ IsRefusal Memory left before now = Unit {0}
 IsRefusal TooLong left before now = IfTold left (λ bytes. most_bytes < length bytes)
 IsRefusal Unbuilt left before now = IsUnbuilt left
 IsRefusal other left before now = ⊥
+
+-- how a migration ended, as a status
+abbrev pub status_of_end : Result (Unit {0}) RunFault → Status
+status_of_end (Ok done) = Done
+status_of_end (Err run.Outlet) = Outlet
+status_of_end (Err run.Memory) = Memory

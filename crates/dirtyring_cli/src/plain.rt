@@ -3,7 +3,7 @@ ghost use Rattle.dr_types.specs.Ports.{Rose};
 ghost use Rattle.dr_types.specs.Validity.{IsValid};
 ghost use Rattle.dr_run.specs.Going.{IsFault};
 ghost use Rattle.dr_run.specs.Built.{is_built_for};
-ghost use Rattle.dirtyring_cli.specs.Top.{IsMigrated, Says};
+ghost use Rattle.dirtyring_cli.specs.Top.{IsMigrated, Says, status_of_end};
 ghost use Rattle.dirtyring_cli.specs.Words.{IsStep};
 
 use crate::ending::put_rest;

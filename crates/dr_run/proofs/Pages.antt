@@ -1,6 +1,6 @@
 -- The pages that are copied.
 use Rattle.std.proofs.Common.{◌≡◌, ℕ, zero, suc, ◌+◌, ◌<◌, Bool, true, false, List, [], ◌∷◌, length, Option, Some, None, refl, ap, sym, ◌∙◌, replicate}
-use Rattle.std.specs.Prelude.{slice_get, slice_set, cond}
+use Rattle.std.specs.Prelude.{slice_get, cond, IfSome}
 use Rattle.std.specs.List.{list_all}
 use Rattle.std.proofs.Math.ListN.{set, length-set, length-replicate}
 use Rattle.std.proofs.lemmas.Bool.{and_parts, ltb-true}
@@ -56,7 +56,16 @@ at_place f (y ∷ ys) zero x h s = let e : y ≡ x = cc in ap f (sym e) ∙ (and
 at_place f (y ∷ ys) (suc n) x h s = at_place f ys n x (and_parts (f y) (list_all f ys) h).1 s
 
 -- the page that is copied next is one of the guest
-pub next_within : (guest : Guest) (past : List Event) (n page : ℕ) → IsLegalSoFar guest past
+next_within : (guest : Guest) (past : List Event) (n page : ℕ) → IsLegalSoFar guest past
     → slice_get (pages_of (last_synced past)) n ≡ Some page → page < page_count guest
 next_within guest past n page legal at =
     ltb-true page (page_count guest) (at_place (is_page guest) (pages_of (last_synced past)) n page (answer_named guest past legal) at)
+
+within_case : (n : ℕ) (o : Option ℕ) → ((page : ℕ) → o ≡ Some page → page < n) → IfSome o (λ page. page < n)
+within_case n None h = tt
+within_case n (Some page) h = h page refl
+
+pub next_is_within : (guest : Guest) (past : List Event) (n : ℕ) → IsLegalSoFar guest past
+    → IfSome (slice_get (pages_of (last_synced past)) n) (λ page. page < page_count guest)
+next_is_within guest past n legal =
+    within_case (page_count guest) (slice_get (pages_of (last_synced past)) n) (λ page at. next_within guest past n page legal at)

@@ -1,4 +1,4 @@
-ghost use Rattle.std.specs.Prelude.{◌≡◌, ◌≤◌, ◌<◌, ◌+◌, ◌*◌, ◌^◌, ◌∷◌, ◌||◌, true, nat_lt, length, OnOk, OnErr, IfOk, IfErr};
+ghost use Rattle.std.specs.Prelude.{◌≡◌, ◌≤◌, ◌<◌, ◌+◌, ◌-◌, ◌^◌, ◌||◌, true, nat_lt, OnOk, OnErr, IfOk, IfErr, IfSome};
 ghost use Rattle.dr_types.specs.Pages.{page_count};
 ghost use Rattle.dr_types.specs.Ports.{put_at};
 ghost use Rattle.dr_types.specs.Validity.{IsValid};
@@ -10,7 +10,7 @@ ghost use Rattle.dr_run.specs.Going.{Going, IsFault, StaysSent, ends_switched};
 use crate::run::{Run, RunFault, offer};
 use dr_core::Core;
 use dr_history::Event;
-use dr_io::{Clock, Outlet, PutTurn};
+use dr_io::{Clock, Outlet, Port, PutTurn};
 use dr_stream::Sender;
 use dr_types::Guest;
 use std::alloc::Global;
@@ -25,6 +25,14 @@ fn sent(turn: PutTurn) -> Result<(), RunFault>
         PutTurn::Done => Ok(()),
         PutTurn::Failed => Err(RunFault::Outlet),
     }
+}
+
+/// The page of the open round that is copied next.
+fn next_page(core: &Core) -> Option<u32>
+    ensures { IfSome result (λ page. page < page_count core.now.guest) }
+{
+    let _history = core.history();
+    core.next_copy()
 }
 
 impl<O: Outlet> Run<O> {
@@ -112,7 +120,7 @@ impl<O: Outlet> Run<O> {
         ensures fault { IfErr result (IsFault self.old.faults self.new.faults) }
     {
         for copied in 0..self.core.pages() {
-            let Some(page) = self.core.next_copy() else {
+            let Some(page) = next_page(&self.core) else {
                 break;
             };
             self.copy(r, page)?;

@@ -1,0 +1,6 @@
+use Rattle.std.proofs.Common.{◌≡◌, ◌++◌, map, take, drop}
+use Rattle.dr_report.specs.Tallies.{answered}
+use Rattle.dr_report.proofs.draft.answer_all.Given as goal
+
+abbrev pub invariant-loop-tally : goal.invariant-loop-tally
+invariant-loop-tally l = l.tallies ≡ map (answered l.span) (take l.tally-index l.fn.tallies) ++ drop l.tally-index l.fn.tallies

@@ -1,0 +1,3 @@
+pub mod Tallies
+pub mod Answers
+pub mod Draft
