@@ -103,3 +103,8 @@ abbrev pub status_of_end : Result (Unit {0}) RunFault → Status
 status_of_end (Ok done) = Done
 status_of_end (Err run.Outlet) = Outlet
 status_of_end (Err run.Memory) = Memory
+
+-- the status of a guest file that was not read
+abbrev pub status_of_fault : FileFault → Status
+status_of_fault fault.Memory = Memory
+status_of_fault why = GuestFile why

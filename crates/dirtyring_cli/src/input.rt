@@ -1,5 +1,5 @@
-ghost use Rattle.std.specs.Prelude.{◌≡◌, ◌≤◌, ◌<◌, true, IfOk, IfErr, Option, List, ℕ};
-ghost use Rattle.dirtyring_cli.specs.Top.{IsRead, IsRefusal};
+ghost use Rattle.std.specs.Prelude.{◌≡◌, IfOk, IfErr};
+ghost use Rattle.dirtyring_cli.specs.Top.{IsRead, IsRefusal, status_of_fault};
 
 use dr_guestfile::read_guest;
 use dr_io::{ReadFault, Source, read_all};
@@ -7,6 +7,16 @@ use dr_run::is_built;
 use dr_types::limits::MOST_GUEST_BYTES;
 use dr_types::{FileFault, Guest, Status};
 use std::alloc::Global;
+
+/// The status of a guest file that was not read.
+fn status_of(why: FileFault) -> Status
+    ensures { result ≡ status_of_fault why }
+{
+    match why {
+        FileFault::Memory => Status::Memory,
+        _ => Status::GuestFile(why),
+    }
+}
 
 /// Reads a source to its end, and the guest that its bytes say. The status says why there is none that
 /// is run.
@@ -24,11 +34,11 @@ pub fn read_input<S: Source>(alloc: Global, source: &mut S) -> Result<Guest, Sta
     };
     let guest = match read_guest(alloc, bytes.as_slice()) {
         Ok(guest) => guest,
-        Err(FileFault::Memory) => return Err(Status::Memory),
-        Err(why) => return Err(Status::GuestFile(why)),
+        Err(why) => return Err(status_of(why)),
     };
-    if !is_built(&guest) {
-        return Err(Status::Unbuilt);
+    if is_built(&guest) {
+        Ok(guest)
+    } else {
+        Err(Status::Unbuilt)
     }
-    Ok(guest)
 }

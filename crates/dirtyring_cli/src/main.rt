@@ -12,18 +12,16 @@ use crate::refusal::{exit_code, print_refusal};
 use dr_io::{FixedClock, PortFiles, ReadSource};
 use dr_types::Status;
 pub use plain::{PlainEnd, plain_main};
-use std::alloc::Global;
 use std::env;
 use std::io;
 use std::process::ExitCode;
-use std::rt::Env;
 
 
 
 
 /// The words behind the program's name.
-fn command_words(rt: &impl Env, alloc: Global) -> Result<Vec<String>, io::Error> {
-    let mut words = Vec::new(alloc);
+fn command_words(rt: &HostRuntime) -> Result<Vec<String>, io::Error> {
+    let mut words = Vec::new(rt.alloc());
     for word in env::args(rt)?.skip(1) {
         words.push(word)?;
     }
@@ -32,7 +30,7 @@ fn command_words(rt: &impl Env, alloc: Global) -> Result<Vec<String>, io::Error>
 
 fn main(rt: HostRuntime) -> Result<ExitCode, io::Error> {
     let alloc = rt.alloc();
-    let words = command_words(&rt, alloc)?;
+    let words = command_words(&rt)?;
     let mut source = ReadSource::new(rt.reader());
     let out = PortFiles::new(Some(io::writer(&rt)), None, None, None);
     let clock = FixedClock { now: 0 };

@@ -4,7 +4,6 @@ ghost use Rattle.dirtyring_cli.specs.Codes.{code_of};
 use dr_types::Status;
 use dr_types::limits::MOST_GUEST_BYTES;
 use std::io;
-use std::rt::Eprint;
 
 /// The exit code of a status.
 pub fn exit_code(status: Status) -> u8

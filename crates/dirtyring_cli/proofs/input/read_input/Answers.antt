@@ -1,0 +1,25 @@
+use Rattle.std.proofs.Common.{◌≡◌, ◌≢◌, List, ℕ, Result, Ok, Err, ap, sym, ◌∙◌}
+use Rattle.dr_types.specs.declared.fault.FileFault.TheVariants as fault
+use Rattle.dr_guestfile.specs.GuestTexts.{guest_of}
+use Rattle.dirtyring_cli.proofs.Reading.{too_long, told_bytes, refusal_of}
+use Rattle.dirtyring_cli.proofs.input.read_input.Goals as goal
+
+pub returns-in-Err-TooLong-clause-refusal : goal.returns-in-Err-TooLong-clause-refusal
+returns-in-Err-TooLong-clause-refusal g c =
+    too_long 16777216 _ _ c.read_all.result _ _ c.read_all.ensures (c.in-Err-TooLong.is ∙ ap (λ e. Err e) c.in-Err-TooLong.field-0-is)
+
+pub returns-in-Err-clause-refusal : goal.returns-in-Err-clause-refusal
+returns-in-Err-clause-refusal g c =
+    rw c.status_of.ensures
+      (refusal_of (g.S.Source.left c.args.source.now) (g.S.Source.faults c.args.source.now) (g.S.Source.faults c.read_all.new.source) c.in-Err.why
+        (λ known. told_bytes 16777216 _ _ c.read_all.result _ _ c.in-Ok.bytes c.read_all.ensures c.in-Ok.is (λ bytes. guest_of bytes ≡ Err c.in-Err.why)
+          (rw c.as_slice.ensures at (c.in-Err.ensures.value known))))
+
+pub returns-clause-refusal : goal.returns-clause-refusal
+returns-clause-refusal g c = record {
+  guest = c.in-Ok-read_guest.guest;
+  file = told_bytes 16777216 _ _ c.read_all.result _ _ c.in-Ok.bytes c.read_all.ensures c.in-Ok.is (λ bytes. guest_of bytes ≡ Ok c.in-Ok-read_guest.guest)
+      (rw c.as_slice.ensures at c.in-Ok-read_guest.ensures.value);
+  valid = c.in-Ok-read_guest.ensures.valid;
+  unbuilt = sym c.is_built.ensures ∙ c.if-is_built.false;
+}
