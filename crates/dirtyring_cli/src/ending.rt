@@ -28,10 +28,8 @@ fn put<O: Outlet>(out: &mut O, port: Port, bytes: &[u8]) -> Result<(), RunFault>
 /// Puts the guest's memory on Image, page by page.
 #[tactic(auto, using(crate::proofs::Images::page_more, crate::proofs::Images::no_page))]
 fn put_image<O: Outlet>(core: &Core, out: &mut O) -> Result<(), RunFault>
-    ensures done {
-        OnOk result (O.told out.new
-            ≡ put_at Port.Image (image_of core.now.guest core.now.past) (O.told out.old))
-    }
+    ensures done { OnOk result (O.told out.new
+        ≡ put_at Port.Image (image_of core.now.guest core.now.past) (O.told out.old)) }
     ensures later { O.faults out.old ≤ O.faults out.new }
     ensures fault { IfErr result (IsFault (O.faults out.old) (O.faults out.new)) }
 {
@@ -43,9 +41,7 @@ fn put_image<O: Outlet>(core: &Core, out: &mut O) -> Result<(), RunFault>
 
 /// Puts what stands behind the stream: the image, the report and the journal.
 pub fn put_rest<O: Outlet>(alloc: Global, core: &Core, out: &mut O) -> Result<(), RunFault>
-    ensures done {
-        OnOk result (O.told out.new ≡ put_all (rest_of core.now.guest core.now.past) (O.told out.old))
-    }
+    ensures done { OnOk result (O.told out.new ≡ put_all (rest_of core.now.guest core.now.past) (O.told out.old)) }
     ensures later { O.faults out.old ≤ O.faults out.new }
     ensures fault { IfErr result (IsFault (O.faults out.old) (O.faults out.new)) }
 {

@@ -22,9 +22,7 @@ fn status_of(why: FileFault) -> Status
 /// is run.
 pub fn read_input<S: Source>(alloc: Global, source: &mut S) -> Result<Guest, Status>
     ensures read { IfOk result (λ guest. IsRead (S.left source.old) guest) }
-    ensures refusal {
-        IfErr result (λ s. IsRefusal s (S.left source.old) (S.faults source.old) (S.faults source.new))
-    }
+    ensures refusal { IfErr result (λ s. IsRefusal s (S.left source.old) (S.faults source.old) (S.faults source.new)) }
 {
     let bytes = match read_all(alloc, source, MOST_GUEST_BYTES) {
         Ok(bytes) => bytes,

@@ -12,12 +12,11 @@ use crate::refusal::{exit_code, print_refusal};
 use dr_io::{FixedClock, PortFiles, ReadSource};
 use dr_types::Status;
 pub use plain::{PlainEnd, plain_main};
-use std::env;
-use std::io;
 use std::process::ExitCode;
+use std::{env, io};
 
-
-
+#[cfg(test)]
+mod tests;
 
 /// The words behind the program's name.
 fn command_words(rt: &HostRuntime) -> Result<Vec<String>, io::Error> {
@@ -34,13 +33,7 @@ fn main(rt: HostRuntime) -> Result<ExitCode, io::Error> {
     let mut source = ReadSource::new(rt.reader());
     let out = PortFiles::new(Some(io::writer(&rt)), None, None, None);
     let clock = FixedClock { now: 0 };
-    let PlainEnd { status, .. } = plain_main(
-        alloc,
-        words.as_slice(),
-        &mut source,
-        out,
-        &clock,
-    );
+    let PlainEnd { status, .. } = plain_main(alloc, words.as_slice(), &mut source, out, &clock);
     let status = status.unwrap_or(Status::Words);
     print_refusal(&rt, status)?;
     Ok(ExitCode::from(exit_code(status)))

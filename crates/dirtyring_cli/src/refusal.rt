@@ -31,7 +31,9 @@ pub fn print_refusal(rt: &impl Eprint, status: Status) -> Result<(), io::Error> 
         Status::Words => eprintln!(rt; "usage: dirtyring step < GUEST-FILE"),
         Status::GuestFile(why) => eprintln!(rt; "dirtyring: standard input: {why}"),
         Status::JournalText { line } => eprintln!(rt; "dirtyring: line {line}: not an event"),
-        Status::Unfinished => eprintln!(rt; "dirtyring: too many pages are left after the last round"),
+        Status::Unfinished => eprintln!(rt;
+            "dirtyring: too many pages are left after the last round"
+        ),
         Status::Outlet => eprintln!(rt; "dirtyring: the output could not be written"),
         Status::Source => eprintln!(rt; "dirtyring: the input could not be read"),
         Status::Memory => eprintln!(rt; "dirtyring: out of memory"),
@@ -42,8 +44,7 @@ pub fn print_refusal(rt: &impl Eprint, status: Status) -> Result<(), io::Error> 
         Status::TooLong => {
             eprintln!(rt; "dirtyring: the input has more than {MOST_GUEST_BYTES} bytes")
         }
-        Status::Unbuilt => eprintln!(
-            rt;
+        Status::Unbuilt => eprintln!(rt;
             "dirtyring: this guest can't be run yet: every script has to end within `pace` ops, `quota` has to be 0, and one round has to be enough"
         ),
     }

@@ -1,4 +1,4 @@
-ghost use Rattle.std.specs.Prelude.{◌≡◌, ◌≤◌, IfOk};
+ghost use Rattle.std.specs.Prelude.{◌≡◌, ◌≤◌, ◌*◌, length, IfOk};
 ghost use Rattle.dr_guestlines.specs.Reading.{Answers};
 ghost use Rattle.dr_guestfile.specs.ScriptLines.{counted, after_op as placed, line_between, line_of_script, end_of_repeat, line_of_repeat, section_line as next_sections, finished, scripts_in};
 
@@ -146,6 +146,13 @@ fn script_line(
     )
 }
 
+/// How many ops a repeated part stands for.
+fn repeated_ops(times: u32, body: &OpList) -> u128
+    ensures { result ≡ times * length body.now }
+{
+    u128::from(times) * body.len() as u128
+}
+
 /// `end`, which ends a repeated part.
 #[tactic(auto, unfolding(crate::specs::ScriptLines::end_of_repeat))]
 fn end_repeat(
@@ -166,7 +173,7 @@ fn end_repeat(
     if !arguments.is_empty() || body.is_empty() {
         return Err(FileFault::Line { no });
     }
-    let ops = count(done.ops, u128::from(times) * body.len() as u128, no)?;
+    let ops = count(done.ops, repeated_ops(times, &body), no)?;
     script.push(Item::Rep { n: times, body })?;
     Ok(Sections {
         done: Done {

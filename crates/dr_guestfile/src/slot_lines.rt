@@ -11,7 +11,7 @@ use dr_types::limits::{GREATEST_SLOT_ID, MOST_COPIES, MOST_PAGES, MOST_SLOTS};
 use dr_types::{FileFault, SlotList, SlotRow, What};
 use std::alloc::Global;
 
-/// The first frame number that no slot may have.
+/// The frame after the last that a slot may have.
 const FRAMES_END: u64 = 1 << 52;
 
 /// `slot ID BASE PAGES`
@@ -41,7 +41,8 @@ fn slot(line: Line<'_>) -> Result<SlotRow, FileFault>
 
 /// The slots share a guest frame.
 fn meets(a: &SlotRow, b: &SlotRow) -> bool
-    requires { (a.now.base + a.now.pages < 2 ^ 64) × (b.now.base + b.now.pages < 2 ^ 64) }
+    requires first { a.now.base + a.now.pages < 2 ^ 64 }
+    requires second { b.now.base + b.now.pages < 2 ^ 64 }
     ensures { result ≡ meet a.now b.now }
 {
     a.base < b.base + u64::from(b.pages) && b.base < a.base + u64::from(a.pages)

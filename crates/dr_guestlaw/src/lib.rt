@@ -4,3 +4,6 @@
 mod law;
 
 pub use law::written_is_read;
+
+#[cfg(test)]
+mod tests;

@@ -92,6 +92,16 @@ impl<'a> Lines<'a> {
         }
     }
 
+    /// The same lines, to read ahead.
+    fn copy(&self) -> Lines<'a>
+        ensures { result ≡ self.now }
+    {
+        Lines {
+            rest: self.rest,
+            number: self.number,
+        }
+    }
+
     /// Takes the next line that isn't skipped. At the end of the text it answers `Line` with the
     /// number of the line after the last, and nothing changes.
     pub fn need_line(&mut self) -> Result<Line<'a>, FileFault>
@@ -118,10 +128,7 @@ impl<'a> Lines<'a> {
             (λ line. (next_begins name.now self.old.lines ≡ true) ×
             (self.old ≡ record { lines = line ∷ self.new.lines; past = self.new.past })) }
     {
-        let mut ahead = Lines {
-            rest: self.rest,
-            number: self.number,
-        };
+        let mut ahead = self.copy();
         let Ok(line) = ahead.need_line() else {
             return None;
         };
@@ -133,10 +140,10 @@ impl<'a> Lines<'a> {
     }
 
     /// The fault of a next line that may not stand here, or that is missing.
-    pub fn refuse(&mut self) -> FileFault
-        ensures { result ≡ FileFault.Line (next_number self.old) }
+    pub fn refuse(&self) -> FileFault
+        ensures { result ≡ FileFault.Line (next_number self.now) }
     {
-        match self.need_line() {
+        match self.copy().need_line() {
             Ok(line) => FileFault::Line { no: line.number },
             Err(fault) => fault,
         }

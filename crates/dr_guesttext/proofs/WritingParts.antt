@@ -1,29 +1,13 @@
 -- The text of a list of lines, as a loop writes it.
-use Rattle.std.proofs.Common.{◌≡◌, ℕ, zero, suc, ◌+◌, ◌<◌, List, [], ◌∷◌, ◌++◌, length, take, get_or, map, min, refl, sym, ap, ◌∙◌, arith, append_assoc}
+use Rattle.std.proofs.Common.{◌≡◌, ℕ, ◌+◌, ◌<◌, List, [], ◌∷◌, ◌++◌, length, take, get_or, map, sym, ap, ◌∙◌, append_assoc}
 use Rattle.std.specs.List.{flat_map}
-use Rattle.std.specs.Int.{w64, to_le_bytes}
 use Rattle.std.proofs.lemmas.List.{append-nil, take_more, map-append}
 use Rattle.std.proofs.lemmas.List.Concat.{flat_map-cons}
 use Rattle.std.proofs.lemmas.Grind.{flat_map-append}
 use Rattle.std.specs.Prelude.{codes}
 use Rattle.dr_types.specs.declared.guest.Guest.{Guest}
 use Rattle.dr_types.specs.GuestText.{settings_lines, slot_line, script_lines, guest_text}
-use Rattle.dr_types.specs.Lines.{line_text, lines_text, low_bytes}
-
-nothing : (n : ℕ) → take n (let none : List ℕ = [] in none) ≡ []
-nothing zero = refl
-nothing (suc n) = refl
-
-pub take_at_most : (len value : ℕ) → take (min len 8) (to_le_bytes w64 value) ≡ low_bytes len value
-take_at_most zero value = refl
-take_at_most (suc zero) value = refl
-take_at_most (suc (suc zero)) value = refl
-take_at_most (suc (suc (suc zero))) value = refl
-take_at_most (suc (suc (suc (suc zero)))) value = refl
-take_at_most (suc (suc (suc (suc (suc zero))))) value = refl
-take_at_most (suc (suc (suc (suc (suc (suc zero)))))) value = refl
-take_at_most (suc (suc (suc (suc (suc (suc (suc zero))))))) value = refl
-take_at_most (suc (suc (suc (suc (suc (suc (suc (suc len)))))))) value = let eight : min (suc (suc (suc (suc (suc (suc (suc (suc len)))))))) 8 ≡ 8 = omega arith in rw (eight, nothing len) refl
+use Rattle.dr_types.specs.Lines.{line_text, lines_text}
 
 pub lines_text-append : (lines more : List (List (List ℕ))) → lines_text (lines ++ more) ≡ lines_text lines ++ lines_text more
 lines_text-append lines more = flat_map-append line_text lines more

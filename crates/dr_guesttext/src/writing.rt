@@ -4,7 +4,7 @@ ghost use Rattle.std.specs.List.{flat_map};
 ghost use Rattle.dr_types.specs.GuestText.{settings_lines, slot_line, op_line, item_lines, script_lines, guest_text};
 ghost use Rattle.dr_types.specs.Lines.{named, line_text, lines_text, low_bytes};
 
-use dr_types::{Guest, Item, Memory, Op, Script, Settings, SlotRow, Text};
+use dr_types::{Guest, Item, Memory, Op, Script, Settings, SlotRow, Text, hex_of};
 use std::alloc::Global;
 
 /// A line of a word and a number.
@@ -63,14 +63,6 @@ fn put_settings(alloc: Global, out: &mut Text, settings: &Settings) -> Result<()
     put_named(alloc, out, "rounds", u64::from(settings.rounds))?;
     put_named(alloc, out, "quota", settings.quota)?;
     Ok(())
-}
-
-/// The low bytes of a number, the least first, in hex.
-#[tactic(auto, using(crate::proofs::WritingParts::take_at_most))]
-fn hex_of(alloc: Global, len: u32, value: u64) -> Result<String, Memory>
-    ensures { IfOk result (λ hex. string_bytes hex ≡ encode_lower (low_bytes len value)) }
-{
-    Ok(hex::encode(alloc, &value.to_le_bytes()[..(len as usize).min(8)])?)
 }
 
 fn put_op(alloc: Global, out: &mut Text, op: &Op) -> Result<(), Memory>

@@ -1,8 +1,7 @@
 -- What a source told, taken in turns.
-use Rattle.std.proofs.Common.{◌≡◌, ℕ, ◌+◌, ◌≤◌, ◌<◌, ◌-◌, ◌^◌, min, List, [], ◌++◌, take, drop, length, Option, Some, Result, Ok, Err, refl, sym, ap, subst, ◌∙◌, arith, length-append}
+use Rattle.std.proofs.Common.{◌≡◌, ℕ, ◌+◌, ◌≤◌, ◌<◌, ◌-◌, List, [], ◌++◌, take, drop, length, Option, Some, Ok, Err, sym, ap, subst, ◌∙◌, arith, length-append}
 use Rattle.std.proofs.lemmas.List.{drop-drop, length-take-le, length-drop, append-nil, take-append-drop}
 use Rattle.std.proofs.Math.Seq.{take-add}
-use Rattle.dr_types.specs.Ports.{Rose}
 use Rattle.dr_io.specs.Reading.{Reads, ReadsAll, IsPartTaken}
 use Rattle.dr_io.specs.declared.source.ReadTurn.{ReadTurn}
 use Rattle.dr_io.specs.declared.source.ReadTurn.TheVariants.{Bytes, End, Failed}

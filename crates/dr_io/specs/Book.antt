@@ -17,13 +17,28 @@ pub record Book : Type 0 where
   pub puts : ℕ
   pub faults : ℕ
 
+-- four empty ports, of which these puts fail
 abbrev pub empty_book : List ℕ → Book
-empty_book fails = record { report = []; stream = []; image = []; journal = []; fails = fails; puts = 0; faults = 0 }
+empty_book fails = record {
+  report = [];
+  stream = [];
+  image = [];
+  journal = [];
+  fails = fails;
+  puts = 0;
+  faults = 0;
+}
 
 -- what a book tells: the bytes of all four ports
 abbrev pub told_by : Book → Ports
-told_by b = record { report = Some b.report; stream = Some b.stream; image = Some b.image; journal = Some b.journal }
+told_by b = record {
+  report = Some b.report;
+  stream = Some b.stream;
+  image = Some b.image;
+  journal = Some b.journal;
+}
 
+-- the bytes of a port
 abbrev pub bytes_of : Port → Book → List ℕ
 bytes_of Report b = b.report
 bytes_of Stream b = b.stream

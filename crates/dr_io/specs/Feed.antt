@@ -4,7 +4,8 @@ use Rattle.dr_io.specs.Numbers.{one_more, is_listed}
 use Rattle.dr_io.specs.declared.source.ReadTurn.{ReadTurn}
 use Rattle.dr_io.specs.declared.source.ReadTurn.TheVariants.{Bytes, End, Failed}
 
--- the bytes left, how many a read gives at most, the reads that fail, and how many reads and failures there were
+-- the bytes left, how many a read gives at most, the reads that fail, and how many reads and failures
+-- there were
 pub record Feed : Type 0 where
   pub left : List ℕ
   pub piece : ℕ
@@ -12,6 +13,7 @@ pub record Feed : Type 0 where
   pub reads : ℕ
   pub faults : ℕ
 
+-- a feed of these bytes, of which no read was made
 abbrev pub new_feed : List ℕ → ℕ → List ℕ → Feed
 new_feed bytes piece fails = record { left = bytes; piece = piece; fails = fails; reads = 0; faults = 0 }
 

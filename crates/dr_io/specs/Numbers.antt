@@ -6,5 +6,6 @@ use Rattle.std.specs.List.{list_any}
 abbrev pub one_more : ℕ → ℕ
 one_more n = min (n + 1) (2 ^ 64 - 1)
 
+-- the number is one of these
 abbrev pub is_listed : ℕ → List ℕ → Bool
 is_listed n numbers = list_any (λ m. m == n) numbers

@@ -96,7 +96,8 @@ impl Outlet for PortBook {
         ensures puts { Puts (told_by self.old) self.old.faults port bytes.now result
             (told_by self.new) self.new.faults }
         ensures after { self.new ≡ after_put self.old port bytes.now result }
-        ensures listed { IsTrue (is_listed (one_more self.old.puts) self.old.fails) → result ≡ Failed }
+        ensures listed { IsTrue (is_listed (one_more self.old.puts) self.old.fails)
+            → result ≡ Failed }
     {
         self.puts = self.puts.saturating_add(1);
         let is_listed = self.fails.as_slice().contains(&self.puts);

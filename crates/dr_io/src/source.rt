@@ -19,5 +19,6 @@ pub trait Source {
     /// unless nothing is left or the read fails.
     fn read(&mut self, buf: &mut [u8]) -> ReadTurn
         requires { 0 < length buf.old }
-        ensures { Reads (left self.old) (faults self.old) buf.new result (left self.new) (faults self.new) };
+        ensures { Reads (left self.old) (faults self.old) buf.new result
+            (left self.new) (faults self.new) };
 }

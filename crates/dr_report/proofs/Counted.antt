@@ -1,7 +1,7 @@
 -- An event of one vCPU changes that vCPU's tally alone.
-use Rattle.std.proofs.Common.{◌≡◌, ◌≢◌, ℕ, ◌<◌, Bool, true, false, List, [], ◌∷◌, map, refl, ap, sym, ◌∙◌}
-use Rattle.std.specs.Prelude.{Option, Some, None, ◌==◌, if◌then◌else◌, slice_get, slice_set}
-use Rattle.std.proofs.lemmas.Bool.{eq-eqb, ne_eqb, cases_Bool, true≢false}
+use Rattle.std.proofs.Common.{◌≡◌, ◌≢◌, ℕ, ◌<◌, Bool, true, false, List, ◌∷◌, map, refl, ap, sym, ◌∙◌}
+use Rattle.std.specs.Prelude.{Some, ◌==◌, if◌then◌else◌, slice_set}
+use Rattle.std.proofs.lemmas.Bool.{eq-eqb, ne_eqb, true≢false}
 use Rattle.dr_types.specs.declared.guest.Why.TheVariants as reason
 use Rattle.dr_history.specs.declared.event.Event.{Event}
 use Rattle.dr_history.specs.declared.event.Event.TheVariants.{Start, Read, Write, Paint, Local, Halted, Pushed, Exited, Synced, Throttled}

@@ -5,3 +5,4 @@ pub mod Counted
 pub mod Sheets
 pub mod Taking
 pub mod Whole
+pub mod Smallest

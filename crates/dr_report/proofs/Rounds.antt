@@ -1,22 +1,21 @@
 -- The lines of the answers: those of each that another followed, and those of the last.
-use Rattle.std.proofs.Common.{◌≡◌, ℕ, ◌+◌, ◌<◌, ◌≤◌, Bool, true, false, List, [], ◌∷◌, ◌++◌, map, length, refl, ap, sym, ◌∙◌, arith, append_assoc}
-use Rattle.std.specs.Prelude.{Option, Some, None, ◌==◌, nat_le, slice_get, if◌then◌else◌}
+use Rattle.std.proofs.Common.{◌≡◌, ℕ, ◌+◌, ◌<◌, ◌≤◌, true, false, List, [], ◌∷◌, ◌++◌, map, length, refl, ap, sym, ◌∙◌, arith, append_assoc}
+use Rattle.std.specs.Prelude.{Option, Some, None, nat_le, slice_get}
 use Rattle.std.specs.List.{list_any, flat_map}
 use Rattle.std.proofs.lemmas.Bool.{ne_eqb, le-leb}
-use Rattle.std.proofs.lemmas.List.{append-nil}
 use Rattle.dr_types.specs.declared.guest.Guest.{Guest}
 use Rattle.dr_types.specs.Scripts.{vcpu_count}
 use Rattle.dr_history.specs.declared.event.Event.{Event}
 use Rattle.dr_history.specs.declared.event.Event.TheVariants.{Synced, Copied}
 use Rattle.dr_history.specs.Lookback.{count, since, before, below}
 use Rattle.dr_history.specs.Kinds.{is_synced, is_copied, is_pushed_of}
-use Rattle.dr_history.specs.Throttles.{begins_span, current_rate, time_of}
-use Rattle.dr_history.specs.Report.{copies_in_round, answers_after, until_after, last_throttled, round_line, share_line, share_text, rounds_text}
+use Rattle.dr_history.specs.Throttles.{begins_span, current_rate}
+use Rattle.dr_history.specs.Report.{copies_in_round, answers_after, until_after, last_throttled, round_line, share_line, rounds_text}
 use Rattle.dr_history.specs.Legality.{IsLegalSoFar}
 use Rattle.dr_report.specs.declared.answer.Answer.{Answer}
 use Rattle.dr_report.specs.declared.tally.Tally.{Tally}
 use Rattle.dr_report.specs.Tallies.{answered_entries, answered_rate, tally_of}
-use Rattle.dr_report.specs.Answers.{new_answer, one_more_copied, last_answer, tally_share, shares, answer_text}
+use Rattle.dr_report.specs.Answers.{one_more_copied, last_answer, tally_share, shares, answer_text}
 use Rattle.dr_report.specs.Draft.{closed_answers}
 use Rattle.dr_report.proofs.Tables.{length_table, table_get, same_lines}
 use Rattle.dr_report.proofs.Turns.{last_round, UpTo, in_turn, answers_later, copied_round, copied_since, until_last, later_answer}

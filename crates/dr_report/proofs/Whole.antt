@@ -1,6 +1,6 @@
 -- The sheet of a legal history, finished, is its report.
-use Rattle.std.proofs.Common.{◌≡◌, ℕ, ◌<◌, List, [], ◌∷◌, ◌++◌, map, refl, ap, sym, ◌∙◌, append_assoc}
-use Rattle.std.specs.Prelude.{Option, Some, None, slice_get}
+use Rattle.std.proofs.Common.{◌≡◌, ℕ, List, ◌++◌, map, ap, sym, ◌∙◌, append_assoc}
+use Rattle.std.specs.Prelude.{slice_get}
 use Rattle.std.specs.List.{flat_map, list_any}
 use Rattle.dr_types.specs.declared.guest.Guest.{Guest}
 use Rattle.dr_types.specs.Scripts.{vcpu_count}
@@ -8,7 +8,7 @@ use Rattle.dr_history.specs.declared.event.Event.{Event}
 use Rattle.dr_history.specs.Lookback.{below}
 use Rattle.dr_history.specs.Kinds.{is_switched}
 use Rattle.dr_history.specs.Legality.{IsLegalSoFar}
-use Rattle.dr_history.specs.Report.{guest_line, rounds_text, vcpu_text, ending_line, report_of}
+use Rattle.dr_history.specs.Report.{guest_line, vcpu_text, ending_line, report_of}
 use Rattle.dr_report.specs.Tallies.{tally_of}
 use Rattle.dr_report.specs.Answers.{last_answer, answer_text}
 use Rattle.dr_report.specs.Draft.{sheet_of, finished, closed_answers, vcpu_share, vcpu_lines, ending}

@@ -4,10 +4,9 @@ use Rattle.std.specs.List.{flat_map}
 use Rattle.dr_history.specs.declared.event.Event.{Event}
 use Rattle.dr_history.specs.declared.event.Event.TheVariants.{Synced, Copied}
 use Rattle.dr_history.specs.Lookback.{below}
-use Rattle.dr_history.specs.Report.{round_line, share_line, last_throttled}
+use Rattle.dr_history.specs.Report.{round_line, share_line}
 use Rattle.dr_report.specs.declared.answer.Answer.{Answer}
 use Rattle.dr_report.specs.declared.tally.Tally.{Tally}
-use Rattle.dr_report.specs.Tallies.{answered_entries, answered_rate}
 
 -- an answer of which no page was copied yet
 abbrev pub new_answer : ℕ → ℕ → ℕ → Answer
@@ -25,6 +24,7 @@ last_answer (Synced r at pages ∷ earlier) = Some (new_answer r (length pages) 
 last_answer (Copied r page ∷ earlier) = one_more_copied (last_answer earlier)
 last_answer (e ∷ earlier) = last_answer earlier
 
+-- the first line of an answer
 abbrev pub answer_line : Answer → List ℕ
 answer_line a = round_line a.round a.dirty a.copied a.at
 
@@ -33,6 +33,7 @@ abbrev pub tally_share : ℕ → Option Tally → List ℕ
 tally_share v None = []
 tally_share v (Some t) = share_line v t.answered_entries t.answered_rate t.throttle_us
 
+-- each vCPU's line of an answer, where these are their tallies
 abbrev pub shares : List Tally → List ℕ
 shares tallies = flat_map (λ v. tally_share v (slice_get tallies v)) (below (length tallies))
 

@@ -1,5 +1,5 @@
 -- A report as far as its events were read.
-use Rattle.std.specs.Prelude.{◌≡◌, ℕ, Bool, true, ◌+◌, ◌-◌, ◌<◌, ◌≤◌, ◌^◌, List, [], ◌∷◌, ◌++◌, map, All, length, codes, Option, Some, None, if◌then◌else◌, slice_get, slice_set}
+use Rattle.std.specs.Prelude.{◌≡◌, ℕ, Bool, true, ◌-◌, ◌<◌, ◌≤◌, ◌^◌, List, [], ◌∷◌, ◌++◌, map, All, length, codes, Option, Some, None, if◌then◌else◌, slice_get, slice_set}
 use Rattle.std.specs.List.{flat_map, list_any}
 use Rattle.dr_types.specs.declared.guest.Guest.{Guest}
 use Rattle.dr_types.specs.Lines.{line_text}
@@ -15,7 +15,8 @@ use Rattle.dr_report.specs.declared.tally.Tally.{Tally}
 use Rattle.dr_report.specs.Tallies.{vcpu_of, counted, begun, answered, IsSmall, tally_of}
 use Rattle.dr_report.specs.Answers.{new_answer, one_more_copied, last_answer, answer_text}
 
--- the lines that are complete, the vCPUs' tallies, the last answer, the time of the last answer or the start, and whether the guest switched over
+-- the lines that are complete, the vCPUs' tallies, the last answer, the time of the last answer or
+-- the start, and whether the guest switched over
 pub record Sheet : Type 0 where
   pub text : List ℕ
   pub tallies : List Tally
@@ -49,7 +50,9 @@ after e s = record s { tallies = tallied (vcpu_of e) e s.tallies }
 -- the lines of each answer that another followed
 abbrev pub closed_answers : ℕ → List Event → List ℕ
 closed_answers vcpus [] = []
-closed_answers vcpus (Synced r at pages ∷ earlier) = closed_answers vcpus earlier ++ answer_text (map (tally_of earlier) (below vcpus)) (last_answer earlier)
+closed_answers vcpus (Synced r at pages ∷ earlier) =
+    closed_answers vcpus earlier
+    ++ answer_text (map (tally_of earlier) (below vcpus)) (last_answer earlier)
 closed_answers vcpus (e ∷ earlier) = closed_answers vcpus earlier
 
 -- the sheet of these events
@@ -67,9 +70,11 @@ abbrev pub vcpu_share : ℕ → Option Tally → List ℕ
 vcpu_share v None = []
 vcpu_share v (Some t) = vcpu_line v t.ops t.full_exits t.kicked_exits
 
+-- each vCPU's line behind the answers
 abbrev pub vcpu_lines : List Tally → List ℕ
 vcpu_lines tallies = flat_map (λ v. vcpu_share v (slice_get tallies v)) (below (length tallies))
 
+-- the last line
 abbrev pub ending : Bool → List ℕ
 ending switched = if switched then line_text (codes "switched" ∷ []) else line_text (codes "unfinished" ∷ [])
 
@@ -77,7 +82,8 @@ ending switched = if switched then line_text (codes "switched" ∷ []) else line
 abbrev pub finished : Sheet → List ℕ
 finished s = s.text ++ answer_text s.tallies s.answer ++ vcpu_lines s.tallies ++ ending s.switched
 
--- what a sheet needs to take an event: the event's vCPU has a tally, and no count is at its last value
+-- what a sheet needs to take an event: its vCPU has a tally, no count is near its last value, and at an
+-- answer no tally has more entries than all operations of a guest
 pub record CanTake (e : Event) (s : Sheet) : Type 0 where
   pub named : (v : ℕ) → vcpu_of e ≡ Some v → v < length s.tallies
   pub small : All IsSmall s.tallies

@@ -1,5 +1,5 @@
 -- What is counted of each vCPU.
-use Rattle.std.specs.Prelude.{◌<◌, ◌^◌, ℕ, ◌+◌, ◌-◌, List, [], ◌∷◌, Option, Some, None, if◌then◌else◌, slice_get, slice_set}
+use Rattle.std.specs.Prelude.{◌<◌, ◌^◌, ℕ, ◌+◌, List, [], ◌∷◌, Option, Some, None, if◌then◌else◌}
 use Rattle.dr_types.specs.declared.guest.Why.TheVariants as reason
 use Rattle.dr_types.specs.Rates.{rate}
 use Rattle.dr_history.specs.declared.event.Event.{Event}
@@ -53,12 +53,14 @@ pub record IsSmall (t : Tally) : Type 0 where
 -- the entries of the last answer, or 0 before the first
 abbrev pub answered_entries : ℕ → List Event → ℕ
 answered_entries v [] = 0
-answered_entries v (e ∷ earlier) = if is_synced e then count (is_pushed_of v) (since begins_span earlier) else answered_entries v earlier
+answered_entries v (e ∷ earlier) =
+    if is_synced e then count (is_pushed_of v) (since begins_span earlier) else answered_entries v earlier
 
 -- the rate of the last answer, or 0 before the first
 abbrev pub answered_rate : ℕ → List Event → ℕ
 answered_rate v [] = 0
-answered_rate v (e ∷ earlier) = if is_synced e then current_rate v (time_of e) earlier else answered_rate v earlier
+answered_rate v (e ∷ earlier) =
+    if is_synced e then current_rate v (time_of e) earlier else answered_rate v earlier
 
 -- what the events say of a vCPU
 abbrev pub tally_of : List Event → ℕ → Tally

@@ -18,7 +18,8 @@ pub struct Answer {
 /// Adds the first line of an answer.
 #[tactic(auto, unfolding(dr_history::specs::Report::round_line, dr_types::specs::Lines::line_text))]
 fn push_answer_line(text: &mut String, answer: &Answer) -> Result<(), Memory>
-    ensures { OnOk result (string_bytes text.new ≡ string_bytes text.old ++ answer_line answer.now) }
+    ensures { OnOk result (string_bytes text.new
+        ≡ string_bytes text.old ++ answer_line answer.now) }
 {
     let Answer {
         round,
@@ -65,7 +66,8 @@ pub fn push_answer(
     answer: Option<Answer>,
     tallies: &[Tally],
 ) -> Result<(), Memory>
-    ensures { OnOk result (string_bytes text.new ≡ string_bytes text.old ++ answer_text tallies.now answer) }
+    ensures { OnOk result (string_bytes text.new
+        ≡ string_bytes text.old ++ answer_text tallies.now answer) }
 {
     if let Some(answer) = answer {
         push_answer_line(text, &answer)?;

@@ -160,7 +160,8 @@ fn push_vcpu(text: &mut String, v: usize, tally: &Tally) -> Result<(), Memory>
 
 /// Adds each vCPU's line.
 fn push_vcpus(text: &mut String, tallies: &[Tally]) -> Result<(), Memory>
-    ensures { OnOk result (string_bytes text.new ≡ string_bytes text.old ++ vcpu_lines tallies.now) }
+    ensures { OnOk result (string_bytes text.new
+        ≡ string_bytes text.old ++ vcpu_lines tallies.now) }
 {
     for (v, tally) in tallies.iter().enumerate() {
         push_vcpu(text, v, tally)?;

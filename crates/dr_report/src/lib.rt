@@ -5,5 +5,7 @@ mod answer;
 mod draft;
 mod report;
 mod tally;
+#[cfg(test)]
+mod tests;
 
 pub use report::report_text;

@@ -42,8 +42,8 @@ impl Tally {
         }
     }
 
-    /// Keeps the entries and their rate for an answer, so many microseconds after the last answer or
-    /// the start.
+    /// Keeps the entries and their rate for an answer, so many microseconds after the last answer
+    /// or the start.
     pub fn answer(&mut self, span: u64)
         requires { self.old.entries ≤ 200000 }
         ensures { self.new ≡ answered span self.old }

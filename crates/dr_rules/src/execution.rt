@@ -167,7 +167,7 @@ fn has_buffer(guest: &Guest, row: &Vcpu, v: u32, events: &[Event]) -> bool
     ensures { row.now ≡ row_of (reverse events.now) v
         → let past = reverse events.now in
         result ≡ nat_lt (opens v (before_fault past) - pushes v past)
-            (max 1 guest.now.settings.buffer) }
+        (max 1 guest.now.settings.buffer) }
 {
     let opens = opens_before_fault(row, v, events);
     opens.saturating_sub(row.pushes) < u64::from(guest.settings.buffer.max(1))

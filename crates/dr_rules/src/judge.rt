@@ -94,7 +94,7 @@ fn broken_later(guest: &Guest, replay: &Replay, events: &[Event], e: &Event) -> 
     requires replay { IsReplay guest.now (reverse events.now) replay.now }
     ensures { let past = reverse events.now in
         result ≡ first_failing 10
-            (ring_rules guest.now past e.now ++ round_rules guest.now past e.now) }
+        (ring_rules guest.now past e.now ++ round_rules guest.now past e.now) }
 {
     match broken_on_rings(guest, replay, events, e) {
         Some(rule) => Some(rule),

@@ -1,5 +1,5 @@
 -- A put of an outlet as a put of its sender.
-use Rattle.std.proofs.Common.{◌≡◌, ℕ, ◌+◌, List, refl, subst, sym}
+use Rattle.std.proofs.Common.{◌≡◌, ℕ, List, refl, subst}
 use Rattle.dr_types.specs.declared.port.Port.TheVariants.{Stream}
 use Rattle.dr_types.specs.Ports.{Ports}
 use Rattle.dr_io.specs.declared.outlet.PutTurn.{PutTurn}

@@ -12,6 +12,7 @@ pub record Sending : Type 0 where
   pub pages : ℕ
 
 -- a put of these bytes on the stream, after which so many pages were put
-pub record Sends (old : Sending) (bytes : List ℕ) (result : PutTurn) (new : Sending) (pages : ℕ) : Type 0 where
+pub record Sends (old : Sending) (bytes : List ℕ) (result : PutTurn) (new : Sending) (pages : ℕ)
+    : Type 0 where
   pub puts : Puts old.told old.faults Stream bytes result new.told new.faults
   pub counted : new.pages ≡ pages

@@ -11,9 +11,9 @@ returns-in-Err-TooLong-clause-refusal g c =
 pub returns-in-Err-clause-refusal : goal.returns-in-Err-clause-refusal
 returns-in-Err-clause-refusal g c =
     rw c.status_of.ensures
-      (refusal_of (g.S.Source.left c.args.source.now) (g.S.Source.faults c.args.source.now) (g.S.Source.faults c.read_all.new.source) c.in-Err.why
-        (λ known. told_bytes 16777216 _ _ c.read_all.result _ _ c.in-Ok.bytes c.read_all.ensures c.in-Ok.is (λ bytes. guest_of bytes ≡ Err c.in-Err.why)
-          (rw c.as_slice.ensures at (c.in-Err.ensures.value known))))
+    (refusal_of (g.S.Source.left c.args.source.now) (g.S.Source.faults c.args.source.now) (g.S.Source.faults c.read_all.new.source) c.in-Err.why
+    (λ known. told_bytes 16777216 _ _ c.read_all.result _ _ c.in-Ok.bytes c.read_all.ensures c.in-Ok.is (λ bytes. guest_of bytes ≡ Err c.in-Err.why)
+    (rw c.as_slice.ensures at (c.in-Err.ensures.value known))))
 
 pub returns-clause-refusal : goal.returns-clause-refusal
 returns-clause-refusal g c = record {

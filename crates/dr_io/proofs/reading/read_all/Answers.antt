@@ -1,6 +1,6 @@
-use Rattle.std.proofs.Common.{rules, ◌≡◌, ◌≤◌, ◌<◌, ℕ, ◌+◌, length, ◌++◌, take, arith}
+use Rattle.std.proofs.Common.{◌≡◌, ◌++◌, take, arith}
 use Rattle.std.proofs.lemmas.Grind.{common_steps}
-use Rattle.dr_io.proofs.Taking.{Taken, take_more, all_taken, too_many, cut_short, no_room}
+use Rattle.dr_io.proofs.Taking.{take_more, all_taken, too_many, cut_short, no_room}
 use Rattle.dr_io.proofs.reading.read_all.Goals as goal
 
 pub returns-then-len-limit : goal.returns-then-len-limit

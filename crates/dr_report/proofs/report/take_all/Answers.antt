@@ -1,4 +1,3 @@
-use Rattle.std.proofs.Common.{arith}
 use Rattle.dr_report.proofs.Taking.{takes_next, takes_on}
 use Rattle.dr_report.proofs.report.take_all.Goals as goal
 

@@ -1,4 +1,4 @@
-use Rattle.std.proofs.Common.{ℕ, ◌+◌, arith}
+use Rattle.std.proofs.Common.{◌+◌, arith}
 use Rattle.std.proofs.lemmas.Grind.{common_steps}
 use Rattle.dr_history.specs.Stream.{header, round_record, page_record, end_record}
 use Rattle.dr_stream.proofs.Sends.{sent}

@@ -1,0 +1,261 @@
+use crate::{PlainEnd, plain_main};
+use dr_io::{ByteSource, FixedClock, Port, PortBook};
+use dr_types::{FileFault, Listed, Memory, Status, What};
+use std::alloc::{AllocError, Global};
+use std::test::Fail;
+
+/// What stands before the slots of the smallest guest.
+const SETTINGS: &str =
+    "dirtyguest 1\nring 8\nreserve 2\nbuffer 0\npace 16\nthreshold 0\nrounds 2\nquota 0\n";
+
+/// A page of zeros with this last byte.
+fn page(last: u8) -> [u8; 4096] {
+    let mut page = [0; 4096];
+    page[4095] = last;
+    page
+}
+
+/// The smallest guest, with these ops before its halt.
+fn guest_file(alloc: Global, ops: &str) -> Result<String, AllocError> {
+    format!(in alloc; "{SETTINGS}slot 0 0 1\nvcpu\n{ops}halt\n")
+}
+
+fn words(alloc: Global, words: &[&str]) -> Result<Vec<String>, AllocError> {
+    let mut all = Vec::new(alloc);
+    for word in words {
+        all.push(String::from_str(alloc, word)?)?;
+    }
+    Ok(all)
+}
+
+/// Runs `step` on a file that comes byte by byte or in large pieces, with the reads and puts of these numbers failing.
+fn step(
+    alloc: Global,
+    file: &[u8],
+    bytewise: bool,
+    reads: &[u64],
+    puts: &[u64],
+    now: u64,
+) -> Result<PlainEnd<PortBook>, AllocError>
+{
+    let piece = if bytewise { 1 } else { 4096 };
+    let bytes = Listed::from_vec(file.to_vec(alloc)?);
+    let mut source = ByteSource::new(bytes, piece, Listed::from_vec(reads.to_vec(alloc)?));
+    let out = PortBook::new(alloc, Listed::from_vec(puts.to_vec(alloc)?));
+    let words = words(alloc, &["step"])?;
+    Ok(plain_main(
+        alloc,
+        words.as_slice(),
+        &mut source,
+        out,
+        &FixedClock { now },
+    ))
+}
+
+/// The status of `step` on a file, where nothing is to be put.
+fn refusal(alloc: Global, file: &[u8]) -> Result<Option<Status>, Fail> {
+    let end = step(alloc, file, false, &[], &[], 0)?;
+    for port in [Port::Report, Port::Stream, Port::Image, Port::Journal] {
+        if !end.out.bytes(port).is_empty() {
+            return Ok(None);
+        }
+    }
+    Ok(end.status)
+}
+
+/// The stream of a guest of one page that is copied once, in the first of three rounds.
+fn stream_of(alloc: Global, page: &[u8]) -> Result<Vec<u8>, AllocError> {
+    let mut stream = b"DRSTREAM\x01\0\0\0\x01\0\0\0".to_vec(alloc)?;
+    stream.extend_from_slice(b"\x01\0\0\0\x01\0\0\0\x02\0\0\0\0\0\0\0")?;
+    stream.extend_from_slice(page)?;
+    stream.extend_from_slice(b"\x01\0\0\0\x03\0\0\0\x03\0\0\0\x01\0\0\0")?;
+    Ok(stream)
+}
+
+/// The events from the start of logging on, at this time.
+fn rounds_of(alloc: Global, now: u64) -> Result<String, AllocError> {
+    let first = format!(in alloc; "start {now}\nask 1\nsync 1 {now} 1 0\ncopy 1 0\n")?;
+    let rest = format!(in alloc; "ask 2\nsync 2 {now} 0\nstop\nask 3\nsync 3 {now} 0\nswitched\n")?;
+    format!(in alloc; "{first}{rest}")
+}
+
+/// The report of a guest of one page and one vCPU that executed so many ops.
+fn report_of(alloc: Global, now: u64, ops: u32) -> Result<String, AllocError> {
+    let share = "  vcpu 0 entries 0 rate 0 throttle 0\n";
+    let one = format!(in alloc; "round 1 dirty 1 copied 1 at {now}\n{share}")?;
+    let two = format!(in alloc; "round 2 dirty 0 copied 0 at {now}\n{share}")?;
+    let three = format!(in alloc; "round 3 dirty 0 copied 0 at {now}\n{share}")?;
+    let head = "guest pages 1 vcpus 1 ring 8 soft 6\n";
+    format!(in alloc; "{head}{one}{two}{three}vcpu 0 ops {ops} full 0 kicked 0\nswitched\n")
+}
+
+#[test]
+fn migrates_one_page(rt: HostRuntime) -> Result<(), Fail> {
+    let alloc = rt.alloc();
+    // The ops, their events, the last byte of the page, the ops executed, the time, and whether reads are bytewise.
+    let rows = [
+        ("", "h 0 0\n", 0, 1, 0, false),
+        ("", "h 0 0\n", 0, 1, 7, false),
+        ("", "h 0 0\n", 0, 1, 0, true),
+        ("w 4095 01\n", "w 0 0 4095 01\nh 0 1\n", 1, 2, 0, false),
+    ];
+    for (ops, events, last, executed, now, bytewise) in rows {
+        let file = guest_file(alloc, ops)?;
+        let end = step(alloc, file.as_bytes(), bytewise, &[], &[], now)?;
+        assert_eq!(rt; end.status, Some(Status::Done));
+        let page = page(last);
+        let stream = stream_of(alloc, &page)?;
+        assert_eq!(rt; end.out.bytes(Port::Stream), stream.as_slice());
+        assert_eq!(rt; end.out.bytes(Port::Image), page.as_slice());
+        let report = report_of(alloc, now, executed)?;
+        assert_eq!(rt; end.out.bytes(Port::Report), report.as_bytes());
+        let rounds = rounds_of(alloc, now)?;
+        let journal = format!(in alloc; "{file}journal\n{events}x 0 halted\n{rounds}end\n")?;
+        assert_eq!(rt; end.out.bytes(Port::Journal), journal.as_bytes());
+    }
+    Ok(())
+}
+
+#[test]
+fn refuses_files(rt: HostRuntime) -> Result<(), Fail> {
+    let alloc = rt.alloc();
+    let large = |what, no| FileFault::TooLarge { what, no };
+    let rows = [
+        (
+            "slot 0 0 1\nvcpu\nw 4095 0102\nhalt\n",
+            FileFault::CrossPage { no: 11 },
+        ),
+        (
+            "slot 0 0 1\nvcpu\nw 4096 01\nhalt\n",
+            FileFault::Unmapped { no: 11 },
+        ),
+        (
+            "slot 0 0 1\nvcpu\nr 4089\nhalt\n",
+            FileFault::CrossPage { no: 11 },
+        ),
+        (
+            "slot 0 0 1\nvcpu\nw 0 012\nhalt\n",
+            FileFault::Number { no: 11 },
+        ),
+        ("slot 0 0 1\nvcpu\njump\nhalt\n", FileFault::Line { no: 11 }),
+        (
+            "slot 0 0 4\nslot 1 3 2\nvcpu\nhalt\n",
+            FileFault::Overlap { a: 0, b: 1 },
+        ),
+        ("slot 0 0 16385\nvcpu\nhalt\n", large(What::Pages, 9)),
+        (
+            "slot 0 0 1\nvcpu\nrep 200000\na 0\nend\nhalt\n",
+            large(What::Ops, 14),
+        ),
+    ];
+    for (rest, fault) in rows {
+        let file = format!(in alloc; "{SETTINGS}{rest}")?;
+        let status = refusal(alloc, file.as_bytes())?;
+        assert_eq!(rt; status, Some(Status::GuestFile(fault)));
+    }
+    Ok(())
+}
+
+#[test]
+fn refuses_settings(rt: HostRuntime) -> Result<(), Fail> {
+    let alloc = rt.alloc();
+    let rows = [
+        ("", FileFault::Magic { no: 1 }),
+        ("dirtyguest 1\nring 6\n", FileFault::RingSize { no: 2 }),
+        (
+            "dirtyguest 1\nring 8\nreserve 7\nbuffer 1\n",
+            FileFault::Reserve { no: 4 },
+        ),
+        (
+            "dirtyguest 1\nring 8\nreserve 0\n",
+            FileFault::Number { no: 3 },
+        ),
+        (
+            "dirtyguest 1\nring 8\nreserve 2\nbuffer 0\npace 16\nthreshold 0\nrounds 64\nquota 0\nslot 0 0 4096\n",
+            FileFault::TooLarge {
+                what: What::Copies,
+                no: 9,
+            },
+        ),
+    ];
+    for (file, fault) in rows {
+        let status = refusal(alloc, file.as_bytes())?;
+        assert_eq!(rt; status, Some(Status::GuestFile(fault)));
+    }
+    Ok(())
+}
+
+#[test]
+fn leaves_other_guests(rt: HostRuntime) -> Result<(), Fail> {
+    let alloc = rt.alloc();
+    let file = |pace: u32, threshold: u32, rounds: u32, quota: u64| {
+        let head = "dirtyguest 1\nring 8\nreserve 2\nbuffer 0";
+        let tail = "slot 0 0 1\nvcpu\na 1\nhalt\n";
+        format!(in alloc;
+            "{head}\npace {pace}\nthreshold {threshold}\nrounds {rounds}\nquota {quota}\n{tail}"
+        )
+    };
+    let rows = [
+        (2, 0, 2, 0, Status::Done),
+        (1, 0, 2, 0, Status::Unbuilt),
+        (2, 0, 1, 0, Status::Unbuilt),
+        (2, 1, 1, 0, Status::Done),
+        (2, 0, 2, 1, Status::Unbuilt),
+    ];
+    for (pace, threshold, rounds, quota, status) in rows {
+        let file = file(pace, threshold, rounds, quota)?;
+        let end = step(alloc, file.as_bytes(), false, &[], &[], 0)?;
+        assert_eq!(rt; end.status, Some(status));
+    }
+    Ok(())
+}
+
+#[test]
+fn stops_at_faults(rt: HostRuntime) -> Result<(), Fail> {
+    let alloc = rt.alloc();
+    let file = guest_file(alloc, "")?;
+    let end = step(alloc, file.as_bytes(), true, &[2], &[], 0)?;
+    assert_eq!(rt; end.status, Some(Status::Source));
+    let whole = step(alloc, file.as_bytes(), false, &[], &[9], 0)?;
+    assert_eq!(rt; whole.status, Some(Status::Done));
+    // How long the stream is before each put.
+    let lengths = [0, 16, 24, 4128, 4136, 4144, 4144, 4144];
+    for (before, length) in lengths.into_iter().enumerate() {
+        let end = step(alloc, file.as_bytes(), false, &[], &[before as u64 + 1], 0)?;
+        assert_eq!(rt; end.status, Some(Status::Outlet));
+        assert_eq!(rt; end.out.bytes(Port::Stream).len(), length);
+        assert!(rt; end.out.bytes(Port::Journal).is_empty());
+    }
+    Ok(())
+}
+
+#[test]
+fn limits_its_input(rt: HostRuntime) -> Result<(), Fail> {
+    let alloc = rt.alloc();
+    let spaces = vec![in alloc; b' '; 16_777_217]?;
+    let long = refusal(alloc, spaces.as_slice())?;
+    assert_eq!(rt; long, Some(Status::TooLong));
+    let short = refusal(alloc, &spaces.as_slice()[1..])?;
+    assert_eq!(rt; short, Some(Status::GuestFile(FileFault::Magic { no: 1 })));
+    Ok(())
+}
+
+#[test]
+fn knows_its_words(rt: HostRuntime) -> Result<(), Fail> {
+    let alloc = rt.alloc();
+    let rows: [&[&str]; 4] = [&[], &["walk"], &["step", "step"], &["step", "--json"]];
+    for row in rows {
+        let words = words(alloc, row)?;
+        let mut source = ByteSource::new(Listed::new(alloc), 1, Listed::new(alloc));
+        let out = PortBook::new(alloc, Listed::new(alloc));
+        let end = plain_main(
+            alloc,
+            words.as_slice(),
+            &mut source,
+            out,
+            &FixedClock { now: 0 },
+        );
+        assert_eq!(rt; end.status, Some(Status::Words));
+    }
+    Ok(())
+}

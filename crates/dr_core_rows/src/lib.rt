@@ -1,0 +1,11 @@
+//! Worked histories of small guests, judged event by event.
+#![tactic(auto)]
+
+#[cfg(test)]
+mod guests;
+#[cfg(test)]
+mod histories;
+#[cfg(test)]
+mod tape;
+#[cfg(test)]
+mod tests;
