@@ -36,8 +36,7 @@ fn step(
     reads: &[u64],
     puts: &[u64],
     now: u64,
-) -> Result<PlainEnd<PortBook>, AllocError>
-{
+) -> Result<PlainEnd<PortBook>, AllocError> {
     let piece = if bytewise { 1 } else { 4096 };
     let bytes = Listed::from_vec(file.to_vec(alloc)?);
     let mut source = ByteSource::new(bytes, piece, Listed::from_vec(reads.to_vec(alloc)?));

@@ -1,6 +1,7 @@
 use crate::guests::{counting_guest, idle_guest, two_page_guest, writing_guest};
 use crate::histories::{owed_write, reads, smallest, stale_cache, throttled};
 use crate::tape::Tape;
+use dr_history::{Event, History};
 use std::test::Fail;
 
 /// A reset before the deposit, a flush, and the verdict: how many events were taken, and the rule.
@@ -65,5 +66,17 @@ fn smallest_run_is_legal(rt: HostRuntime) -> Result<(), Fail> {
     let mut tape = Tape::new(alloc, &guest)?;
     smallest(&mut tape)?;
     assert_eq!(rt; tape.verdict(), (12, 0));
+    Ok(())
+}
+
+#[test]
+fn histories_are_written(rt: HostRuntime) -> Result<(), Fail> {
+    let alloc = rt.alloc();
+    let mut history = History::new(alloc)?;
+    assert!(rt; history.push(Event::Stopped).is_ok());
+    let text = history.text(alloc)?;
+    assert_eq!(rt; text.as_str(), "stop\n");
+    assert!(rt; history.reserve(1).is_ok());
+    assert_eq!(rt; history.events().len(), 1);
     Ok(())
 }

@@ -26,7 +26,7 @@ joined_four a b c d ns =
 -- a Synced's line, as it is written in three pieces
 pub synced_line : (r at : ℕ) (pages old : List ℕ)
     → ((old ++ join_with_byte 32 (codes "sync" ∷ decimal r ∷ decimal at ∷ decimal (length pages) ∷ [])) ++ flat_map after_space pages) ++ 10 ∷ []
-      ≡ old ++ event_line (Synced r at pages)
+    ≡ old ++ event_line (Synced r at pages)
 unfolding event_line line_text
 synced_line r at pages old =
     let head = join_with_byte 32 (codes "sync" ∷ decimal r ∷ decimal at ∷ decimal (length pages) ∷ []) in

@@ -50,32 +50,32 @@ last_throttled v (e ∷ earlier) = last_throttled v earlier
 unfoldable pub guest_line : Guest → List ℕ
 guest_line guest =
     line_text (codes "guest" ∷ codes "pages" ∷ decimal (page_count guest)
-        ∷ codes "vcpus" ∷ decimal (vcpu_count guest) ∷ codes "ring" ∷ decimal guest.settings.ring
-        ∷ codes "soft" ∷ decimal (soft_limit guest) ∷ [])
+    ∷ codes "vcpus" ∷ decimal (vcpu_count guest) ∷ codes "ring" ∷ decimal guest.settings.ring
+    ∷ codes "soft" ∷ decimal (soft_limit guest) ∷ [])
 
 -- an answer's first line: its round, how many pages it has, how many were copied, and its time
 unfoldable pub round_line : ℕ → ℕ → ℕ → ℕ → List ℕ
 round_line r dirty copied at =
     line_text (codes "round" ∷ decimal r ∷ codes "dirty" ∷ decimal dirty
-        ∷ codes "copied" ∷ decimal copied ∷ codes "at" ∷ decimal at ∷ [])
+    ∷ codes "copied" ∷ decimal copied ∷ codes "at" ∷ decimal at ∷ [])
 
 -- a vCPU's line of an answer, behind two spaces
 unfoldable pub share_line : ℕ → ℕ → ℕ → ℕ → List ℕ
 share_line v entries rate us =
     32 ∷ 32 ∷ line_text (codes "vcpu" ∷ decimal v ∷ codes "entries" ∷ decimal entries
-        ∷ codes "rate" ∷ decimal rate ∷ codes "throttle" ∷ decimal us ∷ [])
+    ∷ codes "rate" ∷ decimal rate ∷ codes "throttle" ∷ decimal us ∷ [])
 
 -- a vCPU's line of the whole run
 unfoldable pub vcpu_line : ℕ → ℕ → ℕ → ℕ → List ℕ
 vcpu_line v ops full kicked =
     line_text (codes "vcpu" ∷ decimal v ∷ codes "ops" ∷ decimal ops
-        ∷ codes "full" ∷ decimal full ∷ codes "kicked" ∷ decimal kicked ∷ [])
+    ∷ codes "full" ∷ decimal full ∷ codes "kicked" ∷ decimal kicked ∷ [])
 
 -- a vCPU's line of an answer, where past is the whole history and earlier the events before the answer
 abbrev pub share_text : List Event → ℕ → ℕ → List Event → ℕ → List ℕ
 share_text past r at earlier v =
     share_line v (count (is_pushed_of v) (since begins_span earlier)) (current_rate v at earlier)
-        (last_throttled v (until_after r past))
+    (last_throttled v (until_after r past))
 
 -- the lines of the answers in these events, in their order, where past is the whole history
 abbrev pub rounds_text : Guest → List Event → List Event → List ℕ

@@ -68,10 +68,8 @@ fn push_paint(
 
 /// Adds the words of a Synced's line before its pages.
 fn push_synced_head(text: &mut String, r: u32, at: u64, count: usize) -> Result<(), Memory>
-    ensures {
-        OnOk result (string_bytes text.new ≡ string_bytes text.old
-            ++ join_with_byte 32 (codes "sync" ∷ decimal r ∷ decimal at ∷ decimal count ∷ []))
-    }
+    ensures { OnOk result (string_bytes text.new ≡ string_bytes text.old
+        ++ join_with_byte 32 (codes "sync" ∷ decimal r ∷ decimal at ∷ decimal count ∷ [])) }
 {
     write!(text, "sync {r} {at} {count}")?;
     Ok(())

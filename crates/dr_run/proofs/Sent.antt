@@ -76,7 +76,7 @@ pub closed_stays : (old new : Going) (r at : ℕ) (pages : List ℕ) → new.pas
     → opens_round old.guest (Synced r at pages) old.past ≡ false → new.told ≡ old.told → new.pages ≡ old.pages → StaysSent old new
 closed_stays old new r at pages past guest opens told same =
     record_stays old new (Synced r at pages) past guest
-      (rw opens (told ∙ ap (λ x. record old.told { stream = x }) (sym (grown_none old.told.stream)))) same
+    (rw opens (told ∙ ap (λ x. record old.told { stream = x }) (sym (grown_none old.told.stream)))) same
 
 -- the end record counts the pages that were sent
 pub switch_stays : (old new : Going) → new.past ≡ Switched ∷ old.past → new.guest ≡ old.guest

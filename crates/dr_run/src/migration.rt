@@ -85,10 +85,7 @@ impl<O: Outlet> Run<O> {
         let pages = self.core.dirty_pages(self.alloc)?;
         let count = pages.len();
         let opens = self.would_open(count);
-        offer(
-            &mut self.core,
-            Event::Synced { r, at: now, pages },
-        )?;
+        offer(&mut self.core, Event::Synced { r, at: now, pages })?;
         if opens {
             sent(self.sender.round(r))?;
         }
@@ -213,10 +210,8 @@ pub fn run_halting<O: Outlet, C: Clock>(
     ensures guest { IfOk result.end (λ core. core.guest ≡ guest.now) }
     ensures legal { IfOk result.end (λ core. IsLegal guest.now core.past) }
     ensures switched { IfOk result.end (λ core. ends_switched core.past ≡ true) }
-    ensures sent {
-        IfOk result.end (λ core. O.told result.out
-            ≡ put_at Port.Stream (stream_of guest.now core.past) (O.told out))
-    }
+    ensures sent { IfOk result.end (λ core. O.told result.out
+        ≡ put_at Port.Stream (stream_of guest.now core.past) (O.told out)) }
     ensures later { O.faults out ≤ O.faults result.out }
     ensures fault { IfErr result.end (IsFault (O.faults out) (O.faults result.out)) }
 {

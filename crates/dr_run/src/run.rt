@@ -43,15 +43,13 @@ impl<O: Outlet> Model for Run<O> {
 
     ghost Value = { Going };
 
-    ghost view = {
-        λ r. record {
-            guest = r.core.guest;
-            past = r.core.past;
-            told = r.sender.told;
-            faults = r.sender.faults;
-            pages = r.sender.pages;
-        }
-    };
+    ghost view = { λ r. record {
+      guest = r.core.guest;
+      past = r.core.past;
+      told = r.sender.told;
+      faults = r.sender.faults;
+      pages = r.sender.pages;
+    } };
 }
 
 /// Gives an event to the judge.

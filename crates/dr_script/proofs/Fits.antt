@@ -52,8 +52,8 @@ script : (slots : List SlotRow) (its : List Item) → IsScript slots its → Eac
 script slots its is =
     let halt : Each slots (expanded (One Halt ∷ [])) = (tt, tt) in
     subst (λ xs. Each slots (expanded xs)) (sym is.ends)
-      (subst (Each slots) (sym (flat_map-append written_out is.items (One Halt ∷ [])))
-        (both slots (expanded is.items) (expanded (One Halt ∷ [])) (items slots is.items is.valid) halt))
+    (subst (Each slots) (sym (flat_map-append written_out is.items (One Halt ∷ [])))
+    (both slots (expanded is.items) (expanded (One Halt ∷ [])) (items slots is.items is.valid) halt))
 
 at : (slots : List SlotRow) (ops : List Op) (i : ℕ) → Each slots ops → IfSome (slice_get ops i) (IsOpOrHalt slots)
 at slots [] zero each = tt

@@ -57,7 +57,7 @@ IsMarked from to old new =
     (length new ≡ length old)
     × ((k : ℕ) (d : Entry) → k < length old
     → get_or new k d ≡
-          (if nat_le from k && nat_lt k to then deposited_entry (get_or old k d) else get_or old k d))
+    (if nat_le from k && nat_lt k to then deposited_entry (get_or old k d) else get_or old k d))
 
 -- there is room for the entry that the event opens
 abbrev pub OpeningFits : Event → List (List Entry × ℕ) → Type 0

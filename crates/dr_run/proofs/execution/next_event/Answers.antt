@@ -12,6 +12,6 @@ event_of-requires-clause-fits c =
     let core = c.args.core.now in
     let valid : IsValid core.guest = subst IsValid c.guest-guest.ensures.is c.guest-guest.ensures.valid in
     let fits : IfSome (operation core.guest c.args.v (ops c.args.v core.past)) (IsOpOrHalt core.guest.slots) =
-      op_fits core.guest c.args.v (ops c.args.v core.past) valid in
+    op_fits core.guest c.args.v (ops c.args.v core.past) valid in
     let is : operation core.guest c.args.v (ops c.args.v core.past) ≡ Some c.in_ok-op.op = sym c.next_op.ensures ∙ c.in_ok-op.was in
     rw is at fits
