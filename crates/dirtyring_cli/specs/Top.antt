@@ -54,7 +54,8 @@ pub record IsUnbuilt (left : Option (List ℕ)) : Type 0 where
 -- what is put behind the stream
 abbrev pub rest_of : Guest → List Event → List (Port × List ℕ)
 rest_of guest past =
-    (port.Image, image_of guest past) ∷ (port.Report, report_of guest past) ∷ (port.Journal, journal_text guest past) ∷ []
+    (port.Image, image_of guest past) ∷ (port.Report, report_of guest past)
+    ∷ (port.Journal, journal_text guest past) ∷ []
 
 -- what a run to this history puts, in this order
 abbrev pub puts_of : Guest → List Event → List (Port × List ℕ)

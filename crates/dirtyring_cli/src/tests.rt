@@ -2,6 +2,7 @@ use crate::{PlainEnd, plain_main};
 use dr_io::{ByteSource, FixedClock, Port, PortBook};
 use dr_types::{FileFault, Listed, Memory, Status, What};
 use std::alloc::{AllocError, Global};
+use std::process::Abort;
 use std::test::Fail;
 
 /// What stands before the slots of the smallest guest.
@@ -88,31 +89,72 @@ fn report_of(alloc: Global, now: u64, ops: u32) -> Result<String, AllocError> {
     format!(in alloc; "{head}{one}{two}{three}vcpu 0 ops {ops} full 0 kicked 0\nswitched\n")
 }
 
+/// A guest of one page, and what its run leaves.
+#[derive(Clone, Copy)]
+struct Row {
+    /// The ops before the halt.
+    ops: &'static str,
+    /// The events of all ops.
+    events: &'static str,
+    /// The last byte of the page at the end.
+    last: u8,
+    /// How many ops are executed.
+    executed: u32,
+    /// What the clock reads.
+    now: u64,
+    bytewise: bool,
+}
+
+const HALT: Row = Row {
+    ops: "",
+    events: "h 0 0\n",
+    last: 0,
+    executed: 1,
+    now: 0,
+    bytewise: false,
+};
+
+/// The journal of a guest file in its canonical text, and of these events of its ops.
+fn journal_of(alloc: Global, file: &str, events: &str, now: u64) -> Result<String, AllocError> {
+    let rounds = rounds_of(alloc, now)?;
+    format!(in alloc; "{file}journal\n{events}x 0 halted\n{rounds}end\n")
+}
+
+/// Runs a row's guest, and looks at its four ports.
+fn migrates(rt: &impl Abort, alloc: Global, row: &Row) -> Result<(), Fail> {
+    let file = guest_file(alloc, row.ops)?;
+    let end = step(alloc, file.as_bytes(), row.bytewise, &[], &[], row.now)?;
+    assert_eq!(rt; end.status, Some(Status::Done));
+    let page = page(row.last);
+    let stream = stream_of(alloc, &page)?;
+    assert_eq!(rt; end.out.bytes(Port::Stream), stream.as_slice());
+    assert_eq!(rt; end.out.bytes(Port::Image), page.as_slice());
+    let report = report_of(alloc, row.now, row.executed)?;
+    assert_eq!(rt; end.out.bytes(Port::Report), report.as_bytes());
+    let journal = journal_of(alloc, &file, row.events, row.now)?;
+    assert_eq!(rt; end.out.bytes(Port::Journal), journal.as_bytes());
+    Ok(())
+}
+
 #[test]
 fn migrates_one_page(rt: HostRuntime) -> Result<(), Fail> {
+    let last_byte = Row {
+        ops: "w 4095 01\n",
+        events: "w 0 0 4095 01\nh 0 1\n",
+        last: 1,
+        executed: 2,
+        ..HALT
+    };
     let alloc = rt.alloc();
-    // The ops, their events, the last byte of the page, the ops executed, the time, and whether reads are bytewise.
-    let rows = [
-        ("", "h 0 0\n", 0, 1, 0, false),
-        ("", "h 0 0\n", 0, 1, 7, false),
-        ("", "h 0 0\n", 0, 1, 0, true),
-        ("w 4095 01\n", "w 0 0 4095 01\nh 0 1\n", 1, 2, 0, false),
-    ];
-    for (ops, events, last, executed, now, bytewise) in rows {
-        let file = guest_file(alloc, ops)?;
-        let end = step(alloc, file.as_bytes(), bytewise, &[], &[], now)?;
-        assert_eq!(rt; end.status, Some(Status::Done));
-        let page = page(last);
-        let stream = stream_of(alloc, &page)?;
-        assert_eq!(rt; end.out.bytes(Port::Stream), stream.as_slice());
-        assert_eq!(rt; end.out.bytes(Port::Image), page.as_slice());
-        let report = report_of(alloc, now, executed)?;
-        assert_eq!(rt; end.out.bytes(Port::Report), report.as_bytes());
-        let rounds = rounds_of(alloc, now)?;
-        let journal = format!(in alloc; "{file}journal\n{events}x 0 halted\n{rounds}end\n")?;
-        assert_eq!(rt; end.out.bytes(Port::Journal), journal.as_bytes());
-    }
-    Ok(())
+    let later = Row { now: 7, ..HALT };
+    let in_bytes = Row {
+        bytewise: true,
+        ..HALT
+    };
+    migrates(&rt, alloc, &HALT)?;
+    migrates(&rt, alloc, &later)?;
+    migrates(&rt, alloc, &in_bytes)?;
+    migrates(&rt, alloc, &last_byte)
 }
 
 #[test]
@@ -209,22 +251,40 @@ fn leaves_other_guests(rt: HostRuntime) -> Result<(), Fail> {
     Ok(())
 }
 
+/// The status of the smallest guest with one put failing, and how long its stream is then.
+fn cut_at(alloc: Global, put: u64) -> Result<(Option<Status>, usize), Fail> {
+    let file = guest_file(alloc, "")?;
+    let end = step(alloc, file.as_bytes(), false, &[], &[put], 0)?;
+    Ok((end.status, end.out.bytes(Port::Stream).len()))
+}
+
 #[test]
-fn stops_at_faults(rt: HostRuntime) -> Result<(), Fail> {
+fn stops_at_failing_puts(rt: HostRuntime) -> Result<(), Fail> {
+    let alloc = rt.alloc();
+    // The put that fails, and how long the stream is before it.
+    let rows = [
+        (1, 0),
+        (2, 16),
+        (3, 24),
+        (4, 4128),
+        (5, 4136),
+        (6, 4144),
+        (7, 4144),
+        (8, 4144),
+    ];
+    for (put, length) in rows {
+        assert_eq!(rt; cut_at(alloc, put)?, (Some(Status::Outlet), length));
+    }
+    assert_eq!(rt; cut_at(alloc, 9)?, (Some(Status::Done), 4144));
+    Ok(())
+}
+
+#[test]
+fn stops_at_a_failing_read(rt: HostRuntime) -> Result<(), Fail> {
     let alloc = rt.alloc();
     let file = guest_file(alloc, "")?;
     let end = step(alloc, file.as_bytes(), true, &[2], &[], 0)?;
     assert_eq!(rt; end.status, Some(Status::Source));
-    let whole = step(alloc, file.as_bytes(), false, &[], &[9], 0)?;
-    assert_eq!(rt; whole.status, Some(Status::Done));
-    // How long the stream is before each put.
-    let lengths = [0, 16, 24, 4128, 4136, 4144, 4144, 4144];
-    for (before, length) in lengths.into_iter().enumerate() {
-        let end = step(alloc, file.as_bytes(), false, &[], &[before as u64 + 1], 0)?;
-        assert_eq!(rt; end.status, Some(Status::Outlet));
-        assert_eq!(rt; end.out.bytes(Port::Stream).len(), length);
-        assert!(rt; end.out.bytes(Port::Journal).is_empty());
-    }
     Ok(())
 }
 

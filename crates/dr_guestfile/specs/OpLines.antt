@@ -93,5 +93,6 @@ going_on line Halt = Err (fault.Line line)
 going_on line op = Ok op
 
 -- the op of a line in a repeated part
-unfoldable pub op_of_body : List SlotRow → Option Keyword → List (List ℕ) → ℕ → Result Op FileFault
+unfoldable pub op_of_body : List SlotRow → Option Keyword → List (List ℕ) → ℕ
+    → Result Op FileFault
 op_of_body slots keyword arguments line = op_of slots keyword arguments line >>= going_on line

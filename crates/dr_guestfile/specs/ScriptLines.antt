@@ -35,7 +35,8 @@ counted ops more line = do
   Ok (ops + more)
 
 -- a line between two sections: `vcpu` begins one
-unfoldable pub line_between : Done → Option Keyword → List (List ℕ) → ℕ → Result Sections FileFault
+unfoldable pub line_between : Done → Option Keyword → List (List ℕ) → ℕ
+    → Result Sections FileFault
 line_between done (Some keyword.Vcpu) [] line = do
   few ← check (nat_lt (length done.scripts) 32) (fault.TooLarge what.Vcpus line)
   Ok (record { done = done; place = place.Script [] })
@@ -51,7 +52,8 @@ after_op done script op = record { done = done; place = place.Script (script ++ 
 
 -- a line of a script: `rep` begins a repeated part, and others are ops
 unfoldable pub line_of_script :
-    List SlotRow → Done → List Item → Option Keyword → List (List ℕ) → ℕ → Result Sections FileFault
+    List SlotRow → Done → List Item → Option Keyword → List (List ℕ) → ℕ
+    → Result Sections FileFault
 line_of_script slots done script (Some keyword.Rep) arguments line = do
   word ← ok_or (one_word arguments) (fault.Line line)
   times ← number_of 1 200000 word line
@@ -76,7 +78,8 @@ end_of_repeat done part arguments line = do
 
 -- a line of a repeated part: `end` ends it, and others are ops
 unfoldable pub line_of_repeat :
-    List SlotRow → Done → Repeat → Option Keyword → List (List ℕ) → ℕ → Result Sections FileFault
+    List SlotRow → Done → Repeat → Option Keyword → List (List ℕ) → ℕ
+    → Result Sections FileFault
 line_of_repeat slots done part (Some keyword.End) arguments line = end_of_repeat done part arguments line
 line_of_repeat slots done part first arguments line = do
   op ← op_of_body slots first arguments line
@@ -84,7 +87,8 @@ line_of_repeat slots done part first arguments line = do
 
 -- a line at its place
 abbrev pub line_at_place :
-    List SlotRow → Done → Place → Option Keyword → List (List ℕ) → ℕ → Result Sections FileFault
+    List SlotRow → Done → Place → Option Keyword → List (List ℕ) → ℕ
+    → Result Sections FileFault
 line_at_place slots done place.Between first arguments line = line_between done first arguments line
 line_at_place slots done (place.Script script) first arguments line =
     line_of_script slots done script first arguments line
@@ -105,7 +109,8 @@ finished (place.Script script) scripts missing = Err missing
 finished (place.Repeat part) scripts missing = Err missing
 
 -- what these lines make of the sections so far
-unfoldable pub sections_from : List SlotRow → Sections → List Line → ℕ → Result (List (List Item)) FileFault
+unfoldable pub sections_from : List SlotRow → Sections → List Line → ℕ
+    → Result (List (List Item)) FileFault
 sections_from slots sections [] past = finished sections.place sections.done.scripts (fault.Line past)
 sections_from slots sections (line ∷ lines) past =
     section_line slots sections line >>= λ next. sections_from slots next lines past

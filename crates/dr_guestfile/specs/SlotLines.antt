@@ -48,7 +48,8 @@ some_slots [] input = Err (fault.Line (next_number input))
 some_slots (row ∷ rows) input = Ok (row ∷ rows, input)
 
 -- the slots that these lines go on with
-unfoldable pub slots_from : ℕ → List SlotRow → List Line → ℕ → Result (List SlotRow × Input) FileFault
+unfoldable pub slots_from : ℕ → List SlotRow → List Line → ℕ
+    → Result (List SlotRow × Input) FileFault
 slots_from rounds rows [] past = some_slots rows (record { lines = []; past = past })
 slots_from rounds rows (line ∷ lines) past =
     if next_begins (codes "slot") (line ∷ lines)

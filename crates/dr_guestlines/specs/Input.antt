@@ -18,7 +18,8 @@ line_at number text = line_of_words number (words_of (strip_carriage_return text
 -- the lines that aren't skipped, where the first has this number
 abbrev pub numbered_from : ℕ → List (List ℕ) → List Line
 numbered_from number [] = []
-numbered_from number (text ∷ texts) = option_to_list (line_at number text) ++ numbered_from (number + 1) texts
+numbered_from number (text ∷ texts) =
+    option_to_list (line_at number text) ++ numbered_from (number + 1) texts
 
 -- The lines, and the number of the line after the last.
 pub record Input : Type 0 where

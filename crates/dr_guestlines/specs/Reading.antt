@@ -10,7 +10,8 @@ use Rattle.dr_guestlines.specs.Words.{begins_with}
 
 infixl 10 ◌>>=◌
 -- what the first gave is handed to the next, unless it is a fault
-abbrev pub ◌>>=◌ : {A B : Type 0} → Result A FileFault → (A → Result B FileFault) → Result B FileFault
+abbrev pub ◌>>=◌ : {A B : Type 0} → Result A FileFault → (A → Result B FileFault)
+    → Result B FileFault
 (Ok x) >>= f = f x
 (Err e) >>= f = Err e
 

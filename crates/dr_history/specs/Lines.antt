@@ -18,10 +18,12 @@ why_word reason.Yield = codes "yield"
 -- the words of an event's line
 abbrev pub event_words : Event → List (List ℕ)
 event_words (Start at) = codes "start" ∷ decimal at ∷ []
-event_words (Read v i address value) = codes "r" ∷ decimal v ∷ decimal i ∷ decimal address ∷ decimal value ∷ []
+event_words (Read v i address value) =
+    codes "r" ∷ decimal v ∷ decimal i ∷ decimal address ∷ decimal value ∷ []
 event_words (Write v i address len value) =
     codes "w" ∷ decimal v ∷ decimal i ∷ decimal address ∷ encode_lower (low_bytes len value) ∷ []
-event_words (Paint v i page byte) = codes "f" ∷ decimal v ∷ decimal i ∷ decimal page ∷ encode_lower (byte ∷ []) ∷ []
+event_words (Paint v i page byte) =
+    codes "f" ∷ decimal v ∷ decimal i ∷ decimal page ∷ encode_lower (byte ∷ []) ∷ []
 event_words (Local v i) = codes "l" ∷ decimal v ∷ decimal i ∷ []
 event_words (Halted v i) = codes "h" ∷ decimal v ∷ decimal i ∷ []
 event_words (Opened v k page) = codes "o" ∷ decimal v ∷ decimal k ∷ decimal page ∷ []
@@ -32,7 +34,8 @@ event_words (Deposited v from to) = codes "d" ∷ decimal v ∷ decimal from ∷
 event_words (Reset v k) = codes "z" ∷ decimal v ∷ decimal k ∷ []
 event_words Flushed = codes "flush" ∷ []
 event_words (Asked r) = codes "ask" ∷ decimal r ∷ []
-event_words (Synced r at pages) = codes "sync" ∷ decimal r ∷ decimal at ∷ decimal (length pages) ∷ map decimal pages
+event_words (Synced r at pages) =
+    codes "sync" ∷ decimal r ∷ decimal at ∷ decimal (length pages) ∷ map decimal pages
 event_words (Copied r page) = codes "copy" ∷ decimal r ∷ decimal page ∷ []
 event_words (Throttled v us) = codes "t" ∷ decimal v ∷ decimal us ∷ []
 event_words Stopped = codes "stop" ∷ []
@@ -46,7 +49,8 @@ abbrev pub text : List Event → List ℕ
 text [] = []
 text (e ∷ earlier) = text earlier ++ event_line e
 
--- the event has a line of its own: each number is one of its type, and a Write has one to eight bytes that hold its value
+-- the event has a line of its own: each number is one of its type, and a Write has one to eight bytes that
+-- hold its value
 abbrev pub FitsLine : Event → Type 0
 FitsLine (Start at) = at < 2 ^ 64
 FitsLine (Read v i address value) = (v < 2 ^ 32) × (i < 2 ^ 32) × (address < 2 ^ 64) × (value < 2 ^ 64)

@@ -1,11 +1,10 @@
 -- The report of a history, as a text.
-use Rattle.std.specs.Prelude.{ℕ, Bool, false, ◌+◌, ◌-◌, ◌==◌, ◌&&◌, nat_le, List, [], ◌∷◌, ◌++◌, length, codes, if◌then◌else◌}
+use Rattle.std.specs.Prelude.{ℕ, Bool, false, ◌+◌, ◌==◌, nat_le, List, [], ◌∷◌, ◌++◌, length, codes, if◌then◌else◌}
 use Rattle.std.specs.List.{flat_map, list_any}
 use Rattle.std.specs.Fmt.{decimal}
 use Rattle.dr_history.specs.declared.event.Event.{Event}
 use Rattle.dr_history.specs.declared.event.Event.TheVariants.{Synced, Copied, Throttled, Exited}
 use Rattle.dr_types.specs.declared.guest.Guest.{Guest}
-use Rattle.dr_types.specs.declared.guest.Why.{Why}
 use Rattle.dr_types.specs.declared.guest.Why.TheVariants as reason
 use Rattle.dr_types.specs.Pages.{page_count, soft_limit}
 use Rattle.dr_types.specs.Scripts.{vcpu_count}

@@ -23,7 +23,8 @@ fn why_word(why: Why) -> &'static str
 
 /// Adds each page behind a space.
 fn push_pages(text: &mut String, pages: &[u32]) -> Result<(), Memory>
-    ensures { OnOk result (string_bytes text.new ≡ string_bytes text.old ++ flat_map (λ page. 32 ∷ decimal page) pages.now) }
+    ensures { OnOk result (string_bytes text.new
+        ≡ string_bytes text.old ++ flat_map (λ page. 32 ∷ decimal page) pages.now) }
 {
     for page in pages {
         write!(text, " {page}")?;
@@ -42,7 +43,8 @@ fn push_write(
     len: u32,
     value: u64,
 ) -> Result<(), Memory>
-    ensures { OnOk result (string_bytes text.new ≡ string_bytes text.old ++ event_line (Event.Write v i addr len value)) }
+    ensures { OnOk result (string_bytes text.new
+        ≡ string_bytes text.old ++ event_line (Event.Write v i addr len value)) }
 {
     let hex = hex_of(alloc, len, value)?;
     write!(text, "w {v} {i} {addr} {hex}\n")?;
@@ -59,7 +61,8 @@ fn push_paint(
     page: u32,
     byte: u8,
 ) -> Result<(), Memory>
-    ensures { OnOk result (string_bytes text.new ≡ string_bytes text.old ++ event_line (Event.Paint v i page byte)) }
+    ensures { OnOk result (string_bytes text.new
+        ≡ string_bytes text.old ++ event_line (Event.Paint v i page byte)) }
 {
     let hex = hex::encode(alloc, &[byte])?;
     write!(text, "f {v} {i} {page} {hex}\n")?;
@@ -78,7 +81,8 @@ fn push_synced_head(text: &mut String, r: u32, at: u64, count: usize) -> Result<
 /// Adds a Synced's line.
 #[tactic(auto, using(crate::proofs::Words::synced_line))]
 fn push_synced(text: &mut String, r: u32, at: u64, pages: &[u32]) -> Result<(), Memory>
-    ensures { OnOk result (string_bytes text.new ≡ string_bytes text.old ++ event_line (Event.Synced r at pages.now)) }
+    ensures { OnOk result (string_bytes text.new
+        ≡ string_bytes text.old ++ event_line (Event.Synced r at pages.now)) }
 {
     push_synced_head(text, r, at, pages.len())?;
     push_pages(text, pages)?;

@@ -1,5 +1,5 @@
 -- How great a rate and how long a throttle is.
-use Rattle.std.specs.Prelude.{◌≤◌, ℕ, List, ◌+◌, [], ◌∷◌, length}
+use Rattle.std.specs.Prelude.{◌≤◌, ℕ, List}
 use Rattle.dr_types.specs.declared.guest.Guest.{Guest}
 use Rattle.dr_types.specs.declared.rates.Throttle.{Throttle}
 use Rattle.dr_history.specs.declared.event.Event.{Event}

@@ -76,7 +76,8 @@ vcpu_lines tallies = flat_map (λ v. vcpu_share v (slice_get tallies v)) (below 
 
 -- the last line
 abbrev pub ending : Bool → List ℕ
-ending switched = if switched then line_text (codes "switched" ∷ []) else line_text (codes "unfinished" ∷ [])
+ending switched =
+    if switched then line_text (codes "switched" ∷ []) else line_text (codes "unfinished" ∷ [])
 
 -- the whole report
 abbrev pub finished : Sheet → List ℕ

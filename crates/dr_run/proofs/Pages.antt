@@ -1,5 +1,5 @@
 -- The pages that are copied.
-use Rattle.std.proofs.Common.{◌≡◌, ℕ, zero, suc, ◌+◌, ◌<◌, Bool, true, false, List, [], ◌∷◌, length, Option, Some, None, refl, ap, sym, ◌∙◌, replicate}
+use Rattle.std.proofs.Common.{◌≡◌, ℕ, zero, suc, ◌+◌, ◌<◌, Bool, true, false, List, [], ◌∷◌, length, Option, Some, None, refl, ap, sym, ◌∙◌}
 use Rattle.std.specs.Prelude.{slice_get, cond, IfSome}
 use Rattle.std.specs.List.{list_all}
 use Rattle.std.proofs.Math.ListN.{set, length-set, length-replicate}
@@ -11,7 +11,7 @@ use Rattle.dr_history.specs.declared.event.Event.{Event}
 use Rattle.dr_history.specs.declared.event.Event.TheVariants.{Write, Paint, Synced}
 use Rattle.dr_history.specs.Lookback.{is_number}
 use Rattle.dr_history.specs.Legality.{IsLegalSoFar}
-use Rattle.dr_history.specs.Memory.{page_bytes, page_after, filled, overwritten}
+use Rattle.dr_history.specs.Memory.{page_bytes, filled, overwritten}
 use Rattle.dr_history.specs.Rounds.{last_synced}
 use Rattle.dr_history.specs.Rules.{names_exist, is_page}
 use Rattle.dr_law.specs.Copies.{pages_of}

@@ -3,16 +3,15 @@ use Rattle.std.proofs.Common.{◌≡◌, ℕ, ◌+◌, Bool, true, false, List, 
 use Rattle.std.specs.Prelude.{if◌then◌else◌}
 use Rattle.std.proofs.lemmas.List.{append-nil}
 use Rattle.dr_types.specs.declared.guest.Guest.{Guest}
-use Rattle.dr_types.specs.declared.port.Port.{Port}
-use Rattle.dr_types.specs.declared.port.Port.TheVariants.{Report, Stream, Image, Journal}
+use Rattle.dr_types.specs.declared.port.Port.TheVariants.{Stream}
 use Rattle.dr_types.specs.Ports.{Ports, grown, put_at}
 use Rattle.dr_history.specs.declared.event.Event.{Event}
-use Rattle.dr_history.specs.declared.event.Event.TheVariants.{Start, Read, Write, Paint, Local, Halted, Opened, Filled, Pushed, Exited, Deposited, Reset, Flushed, Asked, Synced, Copied, Throttled, Stopped, Switched}
+use Rattle.dr_history.specs.declared.event.Event.TheVariants.{Start, Synced, Copied, Switched}
 use Rattle.dr_history.specs.Lookback.{count}
 use Rattle.dr_history.specs.Kinds.{is_copied}
 use Rattle.dr_history.specs.Stream.{stream_of, record_of, round_record, end_record}
 use Rattle.dr_history.specs.Rounds.{opens_round}
-use Rattle.dr_run.specs.Going.{Going, IsSent, IsSilent, StaysSent}
+use Rattle.dr_run.specs.Going.{Going, IsSilent, StaysSent}
 
 grown_twice : (bytes : Option (List ℕ)) (a b : List ℕ) → grown (grown bytes a) b ≡ grown bytes (a ++ b)
 grown_twice None a b = refl

@@ -16,4 +16,5 @@ is_short_of_rounds guest = guest.settings.rounds == 1 && nat_lt guest.settings.t
 
 unfoldable pub is_built_for : Guest → Bool
 is_built_for guest =
-    list_all (halts_in guest.settings.pace) guest.scripts && guest.settings.quota == 0 && not (is_short_of_rounds guest)
+    list_all (halts_in guest.settings.pace) guest.scripts && guest.settings.quota == 0
+    && not (is_short_of_rounds guest)

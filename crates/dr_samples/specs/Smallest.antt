@@ -1,5 +1,5 @@
 -- The smallest run: one vCPU that halts at once, one page that is copied once; its texts and its stream.
-use Rattle.std.specs.Prelude.{◌≡◌, ℕ, List, [], ◌∷◌, ◌++◌, codes, length, None}
+use Rattle.std.specs.Prelude.{◌≡◌, ℕ, List, [], ◌∷◌, codes, length}
 use Rattle.dr_types.specs.declared.guest.Guest.{Guest}
 use Rattle.dr_types.specs.declared.guest.Op.TheVariants.{Halt}
 use Rattle.dr_types.specs.declared.guest.Item.TheVariants.{One}
@@ -22,7 +22,8 @@ halting_guest = record {
 -- the newest event first; each time is the same
 unfoldable pub halting_run : ℕ → List Event
 halting_run at =
-    Switched ∷ Synced 3 at [] ∷ Asked 3 ∷ Stopped ∷ Synced 2 at [] ∷ Asked 2 ∷ Copied 1 0 ∷ Synced 1 at (0 ∷ []) ∷ Asked 1
+    Switched ∷ Synced 3 at [] ∷ Asked 3 ∷ Stopped ∷ Synced 2 at [] ∷ Asked 2 ∷ Copied 1 0
+    ∷ Synced 1 at (0 ∷ []) ∷ Asked 1
     ∷ Start at ∷ Exited 0 reason.Halted ∷ Halted 0 0 ∷ []
 
 -- the text of the guest

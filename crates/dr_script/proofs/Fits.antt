@@ -1,7 +1,6 @@
 -- Each op of a valid guest is one that its slots have room for.
-use Rattle.std.proofs.Common.{◌≡◌, ℕ, zero, suc, List, [], ◌∷◌, ◌++◌, refl, subst, sym, ap, ◌∙◌}
-use Rattle.std.specs.Prelude.{slice_get, Some, None, IfSome}
-use Rattle.std.specs.List.{flat_map}
+use Rattle.std.proofs.Common.{ℕ, zero, suc, List, [], ◌∷◌, ◌++◌, subst, sym}
+use Rattle.std.specs.Prelude.{slice_get, IfSome}
 use Rattle.std.proofs.lemmas.List.Concat.{flat_map-cons}
 use Rattle.std.proofs.lemmas.Grind.{flat_map-append}
 use Rattle.dr_types.specs.declared.guest.SlotRow.{SlotRow}

@@ -67,7 +67,8 @@ OpeningFits e rows = Unit {0}
 -- the entries can take the event
 abbrev pub EntryFits : Event → List (List Entry × ℕ) → Type 0
 EntryFits (Opened v k page) rows = HasRoomAt v rows
-EntryFits (Deposited v from to) rows = (from ≤ to) × ((d : List Entry × ℕ) → to ≤ length (get_or rows v d).0)
+EntryFits (Deposited v from to) rows =
+    (from ≤ to) × ((d : List Entry × ℕ) → to ≤ length (get_or rows v d).0)
 EntryFits e rows = Unit {0}
 
 -- what the rules say of the entry that an event opens

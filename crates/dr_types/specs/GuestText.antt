@@ -14,7 +14,8 @@ use Rattle.dr_types.specs.Lines.{named, lines_text, low_bytes}
 abbrev pub settings_lines : Settings → List (List (List ℕ))
 settings_lines s =
     named (codes "ring") s.ring ∷ named (codes "reserve") s.reserve ∷ named (codes "buffer") s.buffer
-    ∷ named (codes "pace") s.pace ∷ named (codes "threshold") s.threshold ∷ named (codes "rounds") s.rounds
+    ∷ named (codes "pace") s.pace ∷ named (codes "threshold") s.threshold
+    ∷ named (codes "rounds") s.rounds
     ∷ named (codes "quota") s.quota ∷ []
 
 abbrev pub slot_line : SlotRow → List (List ℕ)

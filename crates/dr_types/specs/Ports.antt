@@ -34,7 +34,8 @@ put_all (p ∷ ps) ports = put_all ps (put_at p.0 p.1 ports)
 -- the ports after some first of these puts, and a first part of the next
 abbrev pub PutsCut : List (Port × List ℕ) → Ports → Ports → Type 0
 PutsCut [] old new = new ≡ old
-PutsCut (p ∷ ps) old new = ((n : ℕ) × (new ≡ put_at p.0 (take n p.1) old)) ⊎ PutsCut ps (put_at p.0 p.1 old) new
+PutsCut (p ∷ ps) old new =
+    ((n : ℕ) × (new ≡ put_at p.0 (take n p.1) old)) ⊎ PutsCut ps (put_at p.0 p.1 old) new
 
 -- a count has risen, or stands at its last value
 abbrev pub Rose : ℕ → ℕ → Type 0

@@ -1,5 +1,4 @@
-use Rattle.std.proofs.Common.{◌≡◌, ◌≢◌, List, ℕ, Result, Ok, Err, ap, sym, ◌∙◌}
-use Rattle.dr_types.specs.declared.fault.FileFault.TheVariants as fault
+use Rattle.std.proofs.Common.{◌≡◌, Ok, Err, ap, sym, ◌∙◌}
 use Rattle.dr_guestfile.specs.GuestTexts.{guest_of}
 use Rattle.dirtyring_cli.proofs.Reading.{too_long, told_bytes, refusal_of}
 use Rattle.dirtyring_cli.proofs.input.read_input.Goals as goal

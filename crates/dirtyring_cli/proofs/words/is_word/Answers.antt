@@ -1,4 +1,4 @@
-use Rattle.std.proofs.Common.{◌≡◌, ◌∷◌, [], map, string_bytes, ap, sym, ◌∙◌}
+use Rattle.std.proofs.Common.{◌∷◌, [], string_bytes, ap, ◌∙◌}
 use Rattle.dirtyring_cli.proofs.Tops.{map_single}
 use Rattle.dirtyring_cli.proofs.words.is_word.Goals as goal
 

@@ -1,5 +1,4 @@
-use Rattle.std.proofs.Common.{◌≡◌, ◌≤◌, ◌+◌, ◌*◌}
-use Rattle.dr_types.specs.Pages.{page_count}
+use Rattle.std.proofs.Common.{◌≡◌, ◌≤◌}
 use Rattle.dr_run.specs.Going.{StaysSent}
 use Rattle.dr_run.proofs.run.Run.run_vcpus.Given as goal
 
