@@ -1,10 +1,11 @@
 -- The image, page by page.
-use Rattle.std.proofs.Common.{◌≡◌, ℕ, suc, ◌+◌, List, [], ◌∷◌, ◌++◌, map, Option, Some, None, refl, ap, sym, ◌∙◌, append_assoc, add-one}
+use Rattle.std.proofs.Common.{◌≡◌, ℕ, suc, ◌+◌, List, [], ◌∷◌, ◌++◌, map, refl, ap, sym, ◌∙◌, append_assoc, add-one}
 use Rattle.std.specs.List.{concat}
 use Rattle.std.proofs.lemmas.List.{append-nil, map-append}
 use Rattle.dr_types.specs.declared.guest.Guest.{Guest}
 use Rattle.dr_types.specs.declared.port.Port.TheVariants.{Image}
-use Rattle.dr_types.specs.Ports.{Ports, grown, put_at}
+use Rattle.dr_types.specs.Ports.{Ports, put_at}
+use Rattle.dr_types.proofs.Ports.{put_twice, put_none}
 use Rattle.dr_history.specs.declared.event.Event.{Event}
 use Rattle.dr_history.specs.Lookback.{below}
 use Rattle.dr_history.specs.Memory.{page_bytes}
@@ -23,22 +24,14 @@ next_page guest past n =
     ∙ concat_append (map (λ page. page_bytes guest page past) (below n)) (page_bytes guest n past ∷ [])
     ∙ ap (λ xs. first_pages guest past n ++ xs) (append-nil (page_bytes guest n past))
 
-grown_twice : (bytes : Option (List ℕ)) (a b : List ℕ) → grown (grown bytes a) b ≡ grown bytes (a ++ b)
-grown_twice None a b = refl
-grown_twice (Some bytes) a b = ap (λ xs. Some xs) (append_assoc bytes a b)
-
 -- one page more
 pub page_more : (guest : Guest) (past : List Event) (n : ℕ) (start old new : Ports) → old ≡ put_at Image (first_pages guest past n) start
     → new ≡ put_at Image (page_bytes guest n past) old → new ≡ put_at Image (first_pages guest past (n + 1)) start
 page_more guest past n start old new is put =
     put ∙ ap (put_at Image (page_bytes guest n past)) is
-    ∙ ap (λ x. record start { image = x }) (grown_twice start.image (first_pages guest past n) (page_bytes guest n past))
+    ∙ put_twice Image (first_pages guest past n) (page_bytes guest n past) start
     ∙ ap (λ xs. put_at Image xs start) (sym (next_page guest past n) ∙ ap (first_pages guest past) (sym (add-one n)))
-
-grown_none : (bytes : Option (List ℕ)) → grown bytes [] ≡ bytes
-grown_none None = refl
-grown_none (Some bytes) = ap (λ xs. Some xs) (append-nil bytes)
 
 -- no page yet
 pub no_page : (start : Ports) → start ≡ put_at Image [] start
-no_page start = ap (λ x. record start { image = x }) (sym (grown_none start.image))
+no_page start = sym (put_none Image start)

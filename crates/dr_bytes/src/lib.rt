@@ -97,7 +97,7 @@ impl PageBytes {
 }
 
 /// Puts bytes in the place of others, from one place on.
-#[tactic(auto, using(crate::proofs::Bytes::put_more, crate::proofs::Bytes::length_overwritten))]
+#[tactic(auto, using(crate::proofs::Bytes::put_more, dr_history::proofs::Pages::length_overwritten))]
 fn overwrite(page: &mut [u8], at: usize, bytes: &[u8])
     requires { at + length bytes.now ≤ length page.old }
     ensures { page.new ≡ overwritten page.old at bytes.now }

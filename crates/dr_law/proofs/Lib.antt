@@ -19,3 +19,4 @@ pub mod Rising
 pub mod Copies
 pub mod Covered
 pub mod Entered
+pub mod Named

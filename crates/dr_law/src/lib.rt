@@ -208,3 +208,9 @@ pub fn entries_have_pages_of_the_guest()
     ensures { (guest : Guest) (past : List Event) (w k : ℕ) → IsLegalSoFar guest past
         → IfSome (page_of_entry w k past) (λ p. p < page_count guest) }
 {}
+
+/// The pages of an answer are pages of the guest.
+pub fn answered_pages_exist()
+    ensures { (guest : Guest) (past : List Event) (n page : ℕ) → IsLegalSoFar guest past
+        → slice_get (pages_of (last_synced past)) n ≡ Some page → page < page_count guest }
+{}

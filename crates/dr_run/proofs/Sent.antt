@@ -1,10 +1,11 @@
 -- What was sent is the stream of what happened.
-use Rattle.std.proofs.Common.{◌≡◌, ℕ, ◌+◌, Bool, true, false, List, [], ◌∷◌, ◌++◌, Option, Some, None, refl, ap, sym, ◌∙◌, append_assoc}
+use Rattle.std.proofs.Common.{◌≡◌, ℕ, ◌+◌, Bool, true, false, List, [], ◌∷◌, ◌++◌, refl, ap, sym, ◌∙◌}
 use Rattle.std.specs.Prelude.{if◌then◌else◌}
 use Rattle.std.proofs.lemmas.List.{append-nil}
 use Rattle.dr_types.specs.declared.guest.Guest.{Guest}
 use Rattle.dr_types.specs.declared.port.Port.TheVariants.{Stream}
-use Rattle.dr_types.specs.Ports.{Ports, grown, put_at}
+use Rattle.dr_types.specs.Ports.{put_at}
+use Rattle.dr_types.proofs.Ports.{put_twice, put_none}
 use Rattle.dr_history.specs.declared.event.Event.{Event}
 use Rattle.dr_history.specs.declared.event.Event.TheVariants.{Start, Synced, Copied, Switched}
 use Rattle.dr_history.specs.Lookback.{count}
@@ -12,14 +13,6 @@ use Rattle.dr_history.specs.Kinds.{is_copied}
 use Rattle.dr_history.specs.Stream.{stream_of, record_of, round_record, end_record}
 use Rattle.dr_history.specs.Rounds.{opens_round}
 use Rattle.dr_run.specs.Going.{Going, IsSilent, StaysSent}
-
-grown_twice : (bytes : Option (List ℕ)) (a b : List ℕ) → grown (grown bytes a) b ≡ grown bytes (a ++ b)
-grown_twice None a b = refl
-grown_twice (Some bytes) a b = ap (λ xs. Some xs) (append_assoc bytes a b)
-
--- two puts on the stream are one
-pub put_twice : (ports : Ports) (a b : List ℕ) → put_at Stream b (put_at Stream a ports) ≡ put_at Stream (a ++ b) ports
-put_twice ports a b = ap (λ x. record ports { stream = x }) (grown_twice ports.stream a b)
 
 -- the event adds nothing
 record Adds (guest : Guest) (past : List Event) (e : Event) : Type 0 where
@@ -55,7 +48,7 @@ pub record_stays : (old new : Going) (e : Event) → new.past ≡ e ∷ old.past
 record_stays old new e past guest told pages start sent =
     record {
       told = told ∙ ap (put_at Stream (record_of old.guest old.past e)) sent.told
-          ∙ put_twice start (stream_of old.guest old.past) (record_of old.guest old.past e)
+          ∙ put_twice Stream (stream_of old.guest old.past) (record_of old.guest old.past e) start
           ∙ ap (λ xs. put_at Stream xs start) (ap (λ g. stream_of g (e ∷ old.past)) (sym guest) ∙ ap (stream_of new.guest) (sym past));
       pages = counted (is_copied e) old.pages new.pages (count is_copied old.past) pages sent.pages ∙ ap (count is_copied) (sym past);
     }
@@ -66,16 +59,12 @@ pub opened_stays : (old new : Going) (r at : ℕ) (pages : List ℕ) → new.pas
 opened_stays old new r at pages past guest opens told same =
     record_stays old new (Synced r at pages) past guest (rw opens told) same
 
-grown_none : (bytes : Option (List ℕ)) → grown bytes [] ≡ bytes
-grown_none None = refl
-grown_none (Some bytes) = ap (λ xs. Some xs) (append-nil bytes)
-
 -- an answer that opens none
 pub closed_stays : (old new : Going) (r at : ℕ) (pages : List ℕ) → new.past ≡ Synced r at pages ∷ old.past → new.guest ≡ old.guest
     → opens_round old.guest (Synced r at pages) old.past ≡ false → new.told ≡ old.told → new.pages ≡ old.pages → StaysSent old new
 closed_stays old new r at pages past guest opens told same =
     record_stays old new (Synced r at pages) past guest
-    (rw opens (told ∙ ap (λ x. record old.told { stream = x }) (sym (grown_none old.told.stream)))) same
+    (rw opens (told ∙ sym (put_none Stream old.told))) same
 
 -- the end record counts the pages that were sent
 pub switch_stays : (old new : Going) → new.past ≡ Switched ∷ old.past → new.guest ≡ old.guest

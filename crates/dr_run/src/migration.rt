@@ -93,7 +93,7 @@ impl<O: Outlet> Run<O> {
     }
 
     /// The next page of the open round is copied.
-    #[tactic(auto, using(crate::proofs::Sent::record_stays, crate::proofs::Pages::whole_page))]
+    #[tactic(auto, using(crate::proofs::Sent::record_stays, dr_history::proofs::Pages::whole_page))]
     fn copy(&mut self, r: u32, page: u32) -> Result<(), RunFault>
         requires page { page < page_count self.old.guest }
         requires few { self.old.pages < 2 ^ 32 - 1 }

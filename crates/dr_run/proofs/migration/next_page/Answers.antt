@@ -1,7 +1,7 @@
 use Rattle.std.proofs.Common.{subst}
 use Rattle.dr_history.specs.Legality.{IsLegalSoFar}
 use Rattle.dr_law.specs.Copies.{copies}
-use Rattle.dr_run.proofs.Pages.{next_is_within}
+use Rattle.dr_law.proofs.Named.{next_is_within}
 use Rattle.dr_run.proofs.migration.next_page.Goals as goal
 
 pub returns : goal.returns
