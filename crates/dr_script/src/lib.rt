@@ -3,8 +3,8 @@
 
 mod reader;
 
-ghost use Rattle.std.specs.Prelude.{◌≡◌, ℕ, List, Some, IfSome, length, drop, slice_get};
-ghost use Rattle.dr_types.specs.Scripts.{written_out, repeated, expanded, operation, next_acc as acc_after};
+ghost use Rattle.std.specs.Prelude.{◌≡◌, ℕ, List, Some, IfSome, ◌<◌, length, drop, slice_get};
+ghost use Rattle.dr_types.specs.Scripts.{written_out, repeated, expanded, operation, vcpu_count, next_acc as acc_after};
 ghost use Rattle.dr_types.specs.Validity.{IsScript, IsValid};
 ghost use Rattle.dr_types.specs.declared.guest.Guest.{Guest};
 ghost use Rattle.dr_types.specs.declared.guest.SlotRow.{SlotRow};
@@ -12,6 +12,7 @@ ghost use Rattle.dr_types.specs.declared.guest.Op.{Op};
 ghost use Rattle.dr_types.specs.declared.guest.Item.{Item};
 ghost use Rattle.dr_script.specs.Places.{AllRun};
 ghost use Rattle.dr_script.specs.Fits.{IsOpOrHalt};
+ghost use Rattle.dr_script.specs.Halts.{HaltsLast};
 
 use dr_types::{Item, Op, OpList, Script};
 pub use reader::Reader;
@@ -97,4 +98,9 @@ pub fn valid_scripts_run()
 pub fn valid_ops_fit()
     ensures { (guest : Guest) (v i : ℕ) → IsValid guest →
         IfSome (operation guest v i) (IsOpOrHalt guest.slots) }
+{}
+
+/// Each script of a valid guest ends with a halt, and has no other.
+pub fn valid_scripts_halt()
+    ensures { (guest : Guest) (v : ℕ) → IsValid guest → v < vcpu_count guest → HaltsLast guest v }
 {}
