@@ -20,3 +20,4 @@ pub mod Copies
 pub mod Covered
 pub mod Entered
 pub mod Named
+pub mod Execution

@@ -11,3 +11,4 @@ pub mod Cover
 pub mod First
 pub mod Unsent
 pub mod Copies
+pub mod Execution
