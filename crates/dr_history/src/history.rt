@@ -51,6 +51,14 @@ impl History {
         self.events.as_slice()
     }
 
+    /// Each event fits its line.
+    #[tactic(auto, using(crate::proofs::Fitting::all_reversed))]
+    pub fn fits_lines(&self)
+        ensures { All FitsLine self.now.past }
+    {
+        let _events = self.events.as_slice();
+    }
+
     /// How many events there are.
     pub fn len(&self) -> usize
         ensures is { result ≡ length self.now.past }
