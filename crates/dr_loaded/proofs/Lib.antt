@@ -1,0 +1,5 @@
+pub mod Sent
+pub mod Placed
+pub mod Loads
+pub mod Read
+pub mod Written
