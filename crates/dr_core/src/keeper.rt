@@ -4,6 +4,7 @@ ghost use Rattle.dr_history.specs.Legality.{broken, IsLegalSoFar};
 ghost use Rattle.dr_history.specs.Lines.{FitsLine};
 ghost use Rattle.dr_history.specs.Rounds.{answered_pages};
 ghost use Rattle.dr_history.specs.Rules.{may_end};
+ghost use Rattle.dr_may.specs.May.{MayFollow};
 ghost use Rattle.dr_core.specs.Faults.{IsCause};
 
 use dr_history::{Event, History};
@@ -110,6 +111,22 @@ impl Core {
         if let Some(rule) = broken(&self.guest, &self.replay, self.history.events(), &e) {
             return Err(CoreFault::Illegal { rule });
         }
+        self.append(e)?;
+        Ok(())
+    }
+
+    /// Takes an event that is known to break no rule behind those before it: it isn't judged. An
+    /// `Err`
+    /// changes nothing.
+    #[tactic(auto, using(dr_state::proofs::Valid::can_replay))]
+    pub fn append(&mut self, e: Event) -> Result<(), Memory>
+        requires fits { FitsLine e }
+        requires follows { MayFollow self.old.guest self.old.past e }
+        ensures taken { OnOk result (self.new.past ≡ e ∷ self.old.past) }
+        ensures err { OnErr result (self.new.past ≡ self.old.past) }
+        ensures guest { self.new.guest ≡ self.old.guest }
+    {
+        let _few = self.history.len();
         let pages = copied_pages(self.alloc, &e)?;
         self.history.reserve(1)?;
         self.replay.make_room(&e)?;
@@ -126,11 +143,13 @@ impl Core {
         &self.guest
     }
 
-    /// The history that was taken, which is legal so far.
+    /// The history that was taken, which is legal so far, and each event of which fits its line.
     pub fn history(&self) -> &History
         ensures past { result.now.past ≡ self.now.past }
         ensures legal { IsLegalSoFar self.now.guest result.now.past }
+        ensures fit { All FitsLine result.now.past }
     {
+        self.history.fits_lines();
         &self.history
     }
 
