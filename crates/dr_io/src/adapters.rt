@@ -1,13 +1,17 @@
-ghost use Rattle.std.specs.Prelude.{◌≡◌, None, ℕ};
+ghost use Rattle.std.specs.Prelude.{◌≡◌, ◌≢◌, None, IfErr, ℕ};
+ghost use Rattle.std.specs.Io.{ReadsAtMost};
+ghost use Rattle.std.specs.IoError.{error_kind};
 ghost use Rattle.dr_types.specs.Ports.{silent};
 
 use crate::outlet::{Outlet, PutTurn};
 use crate::source::{ReadTurn, Source};
 use dr_types::Port;
-use std::io::{Read, Write};
+use std::io;
+use std::io::{ErrorKind, Read, Write};
 use std::marker::Model;
 
-/// A reader as a source. It tells nothing of what is left. Contracts see its count of faults.
+/// A reader as a source. It tells nothing of what is left. A read that is interrupted is no fault.
+/// Contracts see its count of faults.
 #[derive(Drop)]
 pub struct ReadSource<R: Read + Drop> {
     reader: R,
@@ -37,7 +41,7 @@ impl<R: Read + Drop> Source for ReadSource<R> {
     ghost faults = { λ s. s };
 
     fn read(&mut self, buf: &mut [u8]) -> ReadTurn {
-        match self.reader.read(buf) {
+        match read_uninterrupted(&mut self.reader, buf) {
             Ok(0) => ReadTurn::End,
             Ok(n) => ReadTurn::Bytes(n),
             Err(_) => {
@@ -46,6 +50,20 @@ impl<R: Read + Drop> Source for ReadSource<R> {
             }
         }
     }
+}
+
+/// One read, tried again where a signal interrupts it.
+fn read_uninterrupted<R: Read>(reader: &mut R, buf: &mut [u8]) -> io::Result<usize>
+    ensures bound { ReadsAtMost result buf.new }
+    ensures retried { IfErr result (λ why. error_kind why ≢ ErrorKind.Interrupted) }
+{
+    for _ in 0..u64::MAX {
+        match reader.read(buf) {
+            Err(why) if why.kind() == ErrorKind::Interrupted => {}
+            read => return read,
+        }
+    }
+    Err(io::Error::from(ErrorKind::TimedOut))
 }
 
 /// Writers as the ports of an outlet. It tells of no port. A port without a writer is discarded.

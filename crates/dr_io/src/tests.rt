@@ -1,33 +1,95 @@
-ghost use Rattle.std.specs.Prelude.{◌≤◌};
+ghost use Rattle.std.specs.Prelude.{◌≡◌, ◌≤◌, Err};
+ghost use Rattle.dr_types.specs.Ports.{Rose};
+ghost use Rattle.dr_io.specs.declared.outlet.PutTurn.TheVariants.{Failed};
+ghost use Rattle.dr_io.specs.declared.reading.ReadFault.TheVariants as fault;
 
 use crate::{
     ByteSource, Clock, FixedClock, Gate, OpenGate, Outlet, PortBook, PortFiles, PutTurn, ReadFault,
     ReadSource, Source, SystemClock, Who, read_all,
 };
-use dr_types::{Listed, NumberList, Port};
+use Step::{Ends, Fails, Gives, Interrupted};
+use dr_types::{Bytes, Listed, NumberList, Port};
 use std::alloc::Global;
 use std::io;
 use std::io::{ErrorKind, Read, Write};
 use std::test::Fail;
 
-/// Gives `ab`, then says once that it has ended, and then fails.
+/// What a fake reader does at a read.
+#[derive(Clone, Copy, Debug, PartialEq, Eq)]
+enum Step {
+    Gives(u8),
+    Ends,
+    Interrupted,
+    Fails,
+}
+
+/// Does the next of its steps at each read, and fails past the last.
 #[derive(Drop)]
 struct Reader {
-    turn: u32,
+    steps: [Step; 4],
+    at: usize,
 }
 
 impl Read for Reader {
     fn read(&mut self, buf: &mut [u8]) -> io::Result<usize> {
-        self.turn = self.turn.saturating_add(1);
-        match self.turn {
-            1 if buf.len() >= 2 => {
-                buf[0] = b'a';
-                buf[1] = b'b';
-                Ok(2)
+        let step = self.steps.get(self.at).copied().unwrap_or(Fails);
+        self.at = self.at.saturating_add(1);
+        match step {
+            Gives(byte) if !buf.is_empty() => {
+                buf[0] = byte;
+                Ok(1)
             }
-            2 => Ok(0),
+            Ends => Ok(0),
+            Interrupted => Err(io::Error::from(ErrorKind::Interrupted)),
             _ => Err(io::Error::from(ErrorKind::Other)),
         }
+    }
+}
+
+/// The source of these steps.
+fn reading(steps: [Step; 4]) -> ReadSource<Reader> {
+    ReadSource::new(Reader { steps, at: 0 })
+}
+
+/// Takes at most `piece` bytes a write, after so many interrupted ones, and is closed once it has
+/// taken `room` bytes.
+#[derive(Drop)]
+struct Pipe {
+    taken: Bytes,
+    piece: usize,
+    room: usize,
+    interrupts: u32,
+}
+
+impl Write for Pipe {
+    fn write(&mut self, buf: &[u8]) -> io::Result<usize> {
+        if self.interrupts > 0 {
+            self.interrupts -= 1;
+            return Err(io::Error::from(ErrorKind::Interrupted));
+        }
+        let left = self.room.saturating_sub(self.taken.len());
+        if left == 0 {
+            return Err(io::Error::from(ErrorKind::BrokenPipe));
+        }
+        let n = buf.len().min(self.piece).min(left);
+        match self.taken.append(&buf[..n]) {
+            Ok(()) => Ok(n),
+            Err(_) => Err(io::Error::from(ErrorKind::OutOfMemory)),
+        }
+    }
+
+    fn flush(&mut self) -> io::Result<()> {
+        Ok(())
+    }
+}
+
+/// A pipe that has taken nothing.
+fn new_pipe(alloc: Global, piece: usize, room: usize, interrupts: u32) -> Pipe {
+    Pipe {
+        taken: Listed::new(alloc),
+        piece,
+        room,
+        interrupts,
     }
 }
 
@@ -59,7 +121,10 @@ fn source(alloc: Global, piece: usize, fails: u64) -> Result<ByteSource, Fail>
     Ok(ByteSource::new(bytes, piece, numbers(alloc, fails)?))
 }
 
-fn put_on<O: Outlet>(out: &mut O, port: Port, bytes: &[u8]) -> PutTurn {
+/// A put, which counts its fault where it fails.
+fn put_on<O: Outlet>(out: &mut O, port: Port, bytes: &[u8]) -> PutTurn
+    ensures { result ≡ Failed → Rose (O.faults out.old) (O.faults out.new) }
+{
     out.put(port, bytes)
 }
 
@@ -75,19 +140,51 @@ fn pass<G: Gate>(gate: &G) {
     gate.pass(Who::Lane(0), 4);
 }
 
-/// What was read, or why not.
-fn outcome<S: Source>(alloc: Global, source: &mut S, limit: u64) -> Result<usize, ReadFault> {
+/// How much was read, or why not. A read that fails is counted.
+fn outcome<S: Source>(alloc: Global, source: &mut S, limit: u64) -> Result<usize, ReadFault>
+    ensures { result ≡ Err fault.Failed → Rose (S.faults source.old) (S.faults source.new) }
+{
     Ok(read_all(alloc, source, limit)?.len())
 }
 
 #[test]
 fn a_reader_is_a_source(rt: HostRuntime) -> Result<(), Fail> {
-    let mut whole = ReadSource::new(Reader { turn: 0 });
+    let steps = [Gives(b'a'), Gives(b'b'), Ends, Fails];
+    let mut whole = reading(steps);
     let all = read_all(rt.alloc(), &mut whole, 2)?;
     assert_eq!(rt; all.as_slice(), b"ab".as_slice());
     assert_eq!(rt; outcome(rt.alloc(), &mut whole, 2), Err(ReadFault::Failed));
-    let mut long = ReadSource::new(Reader { turn: 0 });
+    let mut long = reading(steps);
     assert_eq!(rt; outcome(rt.alloc(), &mut long, 1), Err(ReadFault::TooLong));
+    Ok(())
+}
+
+#[test]
+fn a_reader_fails_in_mid_stream(rt: HostRuntime) {
+    for (steps, next) in [
+        ([Fails, Gives(b'a'), Ends, Ends], Ok(1)),
+        ([Gives(b'a'), Fails, Ends, Ends], Ok(0)),
+        ([Gives(b'a'), Fails, Gives(b'b'), Ends], Ok(1)),
+        ([Gives(b'a'), Fails, Fails, Ends], Err(ReadFault::Failed)),
+        ([Interrupted, Fails, Ends, Ends], Ok(0)),
+    ] {
+        let mut source = reading(steps);
+        assert_eq!(rt; outcome(rt.alloc(), &mut source, 9), Err(ReadFault::Failed));
+        assert_eq!(rt; outcome(rt.alloc(), &mut source, 9), next);
+    }
+}
+
+#[test]
+fn an_interrupted_read_is_tried_again(rt: HostRuntime) -> Result<(), Fail> {
+    for (steps, expected) in [
+        ([Interrupted, Gives(b'a'), Gives(b'b'), Ends], "ab"),
+        ([Gives(b'a'), Interrupted, Gives(b'b'), Ends], "ab"),
+        ([Gives(b'a'), Interrupted, Interrupted, Ends], "a"),
+        ([Interrupted, Interrupted, Interrupted, Ends], ""),
+    ] {
+        let all = read_all(rt.alloc(), &mut reading(steps), 9)?;
+        assert_eq!(rt; all.as_slice(), expected.as_bytes());
+    }
     Ok(())
 }
 
@@ -153,6 +250,47 @@ fn a_failing_writer_is_a_fault(rt: HostRuntime) {
     ] {
         assert_eq!(rt; put_on(&mut broken, port, b"ab"), expected);
     }
+}
+
+#[test]
+fn a_writer_takes_a_first_part(rt: HostRuntime) {
+    for (piece, room, interrupts, expected, taken) in [
+        (1, 6, 0, PutTurn::Done, "abcdef"),
+        (4, 6, 0, PutTurn::Done, "abcdef"),
+        (1, 9, 2, PutTurn::Done, "abcdef"),
+        (9, 5, 0, PutTurn::Failed, "abcde"),
+        (2, 3, 1, PutTurn::Failed, "abc"),
+        (1, 0, 0, PutTurn::Failed, ""),
+        (0, 9, 0, PutTurn::Failed, ""),
+    ] {
+        let mut stream = new_pipe(rt.alloc(), piece, room, interrupts);
+        let mut files = PortFiles::new(None, Some(&mut stream), None, None);
+        assert_eq!(rt; put_on(&mut files, Port::Stream, b"abcdef"), expected);
+        drop(files);
+        assert_eq!(rt; stream.taken.as_slice(), taken.as_bytes());
+    }
+}
+
+#[test]
+fn a_closed_pipe_stays_closed(rt: HostRuntime) {
+    let mut report = new_pipe(rt.alloc(), 9, 5, 0);
+    let mut stream = new_pipe(rt.alloc(), 9, 9, 0);
+    let mut files = PortFiles::new(Some(&mut report), Some(&mut stream), None, None);
+    for (port, bytes, expected) in [
+        (Port::Report, b"ab", PutTurn::Done),
+        (Port::Report, b"cd", PutTurn::Done),
+        (Port::Report, b"ef", PutTurn::Failed),
+        (Port::Stream, b"gh", PutTurn::Done),
+        (Port::Report, b"ij", PutTurn::Failed),
+        (Port::Journal, b"kl", PutTurn::Done),
+        (Port::Stream, b"mn", PutTurn::Done),
+        (Port::Report, b"op", PutTurn::Failed),
+    ] {
+        assert_eq!(rt; put_on(&mut files, port, bytes), expected);
+    }
+    drop(files);
+    assert_eq!(rt; report.taken.as_slice(), b"abcde".as_slice());
+    assert_eq!(rt; stream.taken.as_slice(), b"ghmn".as_slice());
 }
 
 #[test]
