@@ -18,7 +18,7 @@ concat_append : (xs ys : List (List ℕ)) → concat (xs ++ ys) ≡ concat xs ++
 concat_append [] ys = refl
 concat_append (x ∷ xs) ys = ap (λ zs. x ++ zs) (concat_append xs ys) ∙ sym (append_assoc x (concat xs) (concat ys))
 
-next_page : (guest : Guest) (past : List Event) (n : ℕ) → first_pages guest past (suc n) ≡ first_pages guest past n ++ page_bytes guest n past
+pub next_page : (guest : Guest) (past : List Event) (n : ℕ) → first_pages guest past (suc n) ≡ first_pages guest past n ++ page_bytes guest n past
 next_page guest past n =
     ap concat (map-append (λ page. page_bytes guest page past) (below n) (n ∷ []))
     ∙ concat_append (map (λ page. page_bytes guest page past) (below n)) (page_bytes guest n past ∷ [])

@@ -1,3 +1,5 @@
 pub mod Words
+pub mod Input
+pub mod Puts
 pub mod Top
 pub mod Codes

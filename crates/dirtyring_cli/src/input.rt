@@ -1,5 +1,5 @@
-ghost use Rattle.std.specs.Prelude.{◌≡◌, IfOk, IfErr};
-ghost use Rattle.dirtyring_cli.specs.Top.{IsRead, IsRefusal, status_of_fault};
+ghost use Rattle.std.specs.Prelude.{◌≡◌, IfOk, IfErr, OnOk};
+ghost use Rattle.dirtyring_cli.specs.Input.{IsDrained, IsRead, IsRefusal, Takes, status_of_fault};
 
 use dr_guestfile::read_guest;
 use dr_io::{ReadFault, Source, read_all};
@@ -18,11 +18,14 @@ fn status_of(why: FileFault) -> Status
     }
 }
 
-/// Reads a source to its end, and the guest that its bytes say. The status says why there is none that
-/// is run.
+/// Reads a source to its end, and the guest that its bytes say. The status says why there is none
+/// that is run.
 pub fn read_input<S: Source>(alloc: Global, source: &mut S) -> Result<Guest, Status>
     ensures read { IfOk result (λ guest. IsRead (S.left source.old) guest) }
-    ensures refusal { IfErr result (λ s. IsRefusal s (S.left source.old) (S.faults source.old) (S.faults source.new)) }
+    ensures drained { OnOk result (IsDrained (S.left source.old) (S.left source.new)) }
+    ensures takes { IfErr result (λ s. Takes s (S.left source.old) (S.left source.new)) }
+    ensures refusal { IfErr result (λ s.
+        IsRefusal s (S.left source.old) (S.faults source.old) (S.faults source.new)) }
 {
     let bytes = match read_all(alloc, source, MOST_GUEST_BYTES) {
         Ok(bytes) => bytes,

@@ -1,4 +1,5 @@
-//! The program: reads a guest file, migrates its guest over the dirty log, and writes what came of it.
+//! The program: reads a guest file, migrates its guest over the dirty log, and writes what came of
+//! it.
 #![tactic(auto)]
 
 mod ending;

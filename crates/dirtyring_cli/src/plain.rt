@@ -1,9 +1,10 @@
-ghost use Rattle.std.specs.Prelude.{◌≡◌, ◌↔◌, Some, IsSome, IfSome, OnOk, IfErr, map, string_bytes};
+ghost use Rattle.std.specs.Prelude.{◌≡◌, ◌↔◌, true, Some, IsSome, IfSome, OnOk, OnErr, IfErr, map, string_bytes};
 ghost use Rattle.dr_types.specs.Ports.{Rose};
 ghost use Rattle.dr_types.specs.Validity.{IsValid};
 ghost use Rattle.dr_run.specs.Going.{IsFault};
 ghost use Rattle.dr_run.specs.Built.{is_built_for};
-ghost use Rattle.dirtyring_cli.specs.Top.{IsMigrated, Says, status_of_end};
+ghost use Rattle.dirtyring_cli.specs.Input.{IfTold, IsRunnable, Takes};
+ghost use Rattle.dirtyring_cli.specs.Top.{EndsRun, IsCutOff, IsMigrated, Says, SomeMigrated, status_of_end};
 ghost use Rattle.dirtyring_cli.specs.Words.{IsStep};
 
 use crate::ending::put_rest;
@@ -30,8 +31,12 @@ struct Migrated<O: Outlet> {
 
 /// Runs a guest, and puts what it leaves behind its stream.
 fn migrate<O: Outlet, C: Clock>(alloc: Global, guest: &Guest, out: O, clock: &C) -> Migrated<O>
-    requires { IsValid guest.now }
-    ensures migrated { OnOk result.end (IsMigrated guest.now (O.told out) (O.told result.out)) }
+    requires valid { IsValid guest.now }
+    requires built { is_built_for guest.now ≡ true }
+    ensures migrated { OnOk result.end
+        (IsMigrated (C.reads clock.now) guest.now (O.told out) (O.told result.out)) }
+    ensures cut { OnErr result.end
+        (IsCutOff (C.reads clock.now) guest.now (O.told out) (O.told result.out)) }
     ensures fault { IfErr result.end (IsFault (O.faults out) (O.faults result.out)) }
 {
     let RunEnd { end, mut out } = run_halting(alloc, guest, out, clock);
@@ -67,8 +72,8 @@ fn status_of(end: Result<(), RunFault>) -> Status
     }
 }
 
-/// Does a command that needs no threads: `step` reads a guest file from the source, migrates the guest,
-/// and puts the stream, the image, the report and the journal. Other words are no command.
+/// Does a command that needs no threads: `step` reads a guest file from the source, migrates the
+/// guest, and puts the stream, the image, the report and the journal. Other words are no command.
 pub fn plain_main<S: Source, O: Outlet, C: Clock>(
     alloc: Global,
     words: &[String],
@@ -77,10 +82,19 @@ pub fn plain_main<S: Source, O: Outlet, C: Clock>(
     clock: &C,
 ) -> PlainEnd<O>
     ensures some { IsSome result.status }
-    ensures words { (result.status ≡ Some Status.Words) ↔ (IsStep (map string_bytes words.now) → ⊥) }
-    ensures says { IfSome result.status (λ s. Says s (S.left src.old) (O.told out) (O.told result.out)) }
-    ensures outlet { result.status ≡ Some Status.Outlet → Rose (O.faults out) (O.faults result.out) }
-    ensures source { result.status ≡ Some Status.Source → Rose (S.faults src.old) (S.faults src.new) }
+    ensures words { (result.status ≡ Some Status.Words)
+        ↔ (IsStep (map string_bytes words.now) → ⊥) }
+    ensures says { IfSome result.status (λ s.
+        Says (C.reads clock.now) s (S.left src.old) (O.told out) (O.told result.out)) }
+    ensures takes { IfSome result.status (λ s. Takes s (S.left src.old) (S.left src.new)) }
+    ensures untold { result.status ≡ Some Status.Done
+        → SomeMigrated (C.reads clock.now) (O.told out) (O.told result.out) }
+    ensures ends { IsStep (map string_bytes words.now) → IfTold (S.left src.old) (λ bytes.
+        IsRunnable bytes → IfSome result.status EndsRun) }
+    ensures outlet { result.status ≡ Some Status.Outlet
+        → Rose (O.faults out) (O.faults result.out) }
+    ensures source { result.status ≡ Some Status.Source
+        → Rose (S.faults src.old) (S.faults src.new) }
 {
     if !is_step(words) {
         return ended(Status::Words, out);

@@ -1,9 +1,28 @@
 use crate::{PlainEnd, plain_main};
-use dr_io::{ByteSource, FixedClock, Port, PortBook};
+use dr_io::{ByteSource, Clock, FixedClock, Port, PortBook};
 use dr_types::{FileFault, Listed, Memory, Status, What};
 use std::alloc::{AllocError, Global};
+use std::cell::Cell;
 use std::process::Abort;
 use std::test::Fail;
+
+/// A clock that goes on by one microsecond at each answer.
+#[derive(Drop)]
+struct TickingClock {
+    ticks: Cell<u64>,
+}
+
+impl Clock for TickingClock {
+    ghost reads = { λ c t. Unit {0} };
+
+    fn now_us(&self) -> u64 {
+        let now = self.ticks.get();
+        self.ticks.set(now.saturating_add(1));
+        now
+    }
+
+    fn sleep_us(&self, _us: u64) {}
+}
 
 /// What stands before the slots of the smallest guest.
 const SETTINGS: &str =
@@ -29,7 +48,8 @@ fn words(alloc: Global, words: &[&str]) -> Result<Vec<String>, AllocError> {
     Ok(all)
 }
 
-/// Runs `step` on a file that comes byte by byte or in large pieces, with the reads and puts of these numbers failing.
+/// Runs `step` on a file that comes byte by byte or in large pieces, with the reads and puts of these
+/// numbers failing.
 fn step(
     alloc: Global,
     file: &[u8],
@@ -251,31 +271,116 @@ fn leaves_other_guests(rt: HostRuntime) -> Result<(), Fail> {
     Ok(())
 }
 
-/// The status of the smallest guest with one put failing, and how long its stream is then.
-fn cut_at(alloc: Global, put: u64) -> Result<(Option<Status>, usize), Fail> {
+/// The status of the smallest guest with one put failing, and how long its stream, image, report and
+/// journal are then.
+fn cut_at(alloc: Global, put: u64) -> Result<(Option<Status>, [usize; 4]), Fail> {
     let file = guest_file(alloc, "")?;
     let end = step(alloc, file.as_bytes(), false, &[], &[put], 0)?;
-    Ok((end.status, end.out.bytes(Port::Stream).len()))
+    let length = |port| end.out.bytes(port).len();
+    let lengths = [
+        length(Port::Stream),
+        length(Port::Image),
+        length(Port::Report),
+        length(Port::Journal),
+    ];
+    Ok((end.status, lengths))
 }
 
 #[test]
 fn stops_at_failing_puts(rt: HostRuntime) -> Result<(), Fail> {
     let alloc = rt.alloc();
-    // The put that fails, and how long the stream is before it.
+    let report = report_of(alloc, 0, 1)?.len();
+    // The put that fails, and how long the four ports are before it: nothing is put behind it.
     let rows = [
-        (1, 0),
-        (2, 16),
-        (3, 24),
-        (4, 4128),
-        (5, 4136),
-        (6, 4144),
-        (7, 4144),
-        (8, 4144),
+        (1, [0, 0, 0, 0]),
+        (2, [16, 0, 0, 0]),
+        (3, [24, 0, 0, 0]),
+        (4, [4128, 0, 0, 0]),
+        (5, [4136, 0, 0, 0]),
+        (6, [4144, 0, 0, 0]),
+        (7, [4144, 4096, 0, 0]),
+        (8, [4144, 4096, report, 0]),
     ];
-    for (put, length) in rows {
-        assert_eq!(rt; cut_at(alloc, put)?, (Some(Status::Outlet), length));
+    for (put, lengths) in rows {
+        assert_eq!(rt;
+            cut_at(alloc, put)?,
+            (Some(Status::Outlet), lengths),
+            "put {put}"
+        );
     }
-    assert_eq!(rt; cut_at(alloc, 9)?, (Some(Status::Done), 4144));
+    let journal = journal_of(alloc, &guest_file(alloc, "")?, HALT.events, 0)?.len();
+    assert_eq!(rt;
+        cut_at(alloc, 9)?,
+        (Some(Status::Done), [4144, 4096, report, journal])
+    );
+    Ok(())
+}
+
+/// The ports of the smallest guest with this put failing hold first parts of what they hold where none
+/// fails.
+fn begins_alike(rt: &impl Abort, alloc: Global, put: u64) -> Result<(), Fail> {
+    let file = guest_file(alloc, "")?;
+    let cut = step(alloc, file.as_bytes(), false, &[], &[put], 0)?;
+    let whole = step(alloc, file.as_bytes(), false, &[], &[], 0)?;
+    for port in [Port::Stream, Port::Image, Port::Report, Port::Journal] {
+        let begins = whole.out.bytes(port).starts_with(cut.out.bytes(port));
+        assert!(rt; begins, "put {put}");
+    }
+    Ok(())
+}
+
+#[test]
+fn leaves_first_parts(rt: HostRuntime) -> Result<(), Fail> {
+    for put in 1..9 {
+        begins_alike(&rt, rt.alloc(), put)?;
+    }
+    Ok(())
+}
+
+/// The journal of the smallest guest by a clock that goes on, from this time.
+fn ticking_journal(alloc: Global, from: u64) -> Result<String, Fail> {
+    let file = guest_file(alloc, "")?;
+    let bytes = Listed::from_vec(file.as_bytes().to_vec(alloc)?);
+    let mut source = ByteSource::new(bytes, 4096, Listed::new(alloc));
+    let out = PortBook::new(alloc, Listed::new(alloc));
+    let clock = TickingClock {
+        ticks: Cell::new(from),
+    };
+    let words = words(alloc, &["step"])?;
+    let end = plain_main(alloc, words.as_slice(), &mut source, out, &clock);
+    Ok(String::from_utf8_lossy(alloc, end.out.bytes(Port::Journal))?)
+}
+
+#[test]
+fn reads_the_clock_at_each_time(rt: HostRuntime) -> Result<(), Fail> {
+    let alloc = rt.alloc();
+    let file = guest_file(alloc, "")?;
+    let first = "h 0 0\nx 0 halted\nstart 41\nask 1\nsync 1 42 1 0\ncopy 1 0\n";
+    let rest = "ask 2\nsync 2 43 0\nstop\nask 3\nsync 3 44 0\nswitched\n";
+    let expected = format!(in alloc; "{file}journal\n{first}{rest}end\n")?;
+    assert_eq!(rt; ticking_journal(alloc, 41)?, expected);
+    Ok(())
+}
+
+#[test]
+fn stops_after_a_small_first_round(rt: HostRuntime) -> Result<(), Fail> {
+    let alloc = rt.alloc();
+    let head =
+        "dirtyguest 1\nring 8\nreserve 2\nbuffer 0\npace 2\nthreshold 2\nrounds 1\nquota 0\n";
+    let file = format!(in alloc; "{head}slot 0 0 2\nvcpu\nf 1 05\nhalt\nvcpu\nw 0 41\nhalt\n")?;
+    let end = step(alloc, file.as_bytes(), false, &[], &[], 0)?;
+    assert_eq!(rt; end.status, Some(Status::Done));
+    let ops = "f 0 0 1 05\nh 0 1\nx 0 halted\nw 1 0 0 41\nh 1 1\nx 1 halted\n";
+    let rounds =
+        "start 0\nask 1\nsync 1 0 2 0 1\nstop\nask 2\nsync 2 0 2 0 1\ncopy 2 0\ncopy 2 1\nswitched\n";
+    let journal = format!(in alloc; "{file}journal\n{ops}{rounds}end\n")?;
+    assert_eq!(rt; end.out.bytes(Port::Journal), journal.as_bytes());
+    // The header, round 2, two pages and the end.
+    assert_eq!(rt; end.out.bytes(Port::Stream).len(), 16 + 8 + 2 * 4104 + 8);
+    let image = end.out.bytes(Port::Image);
+    assert!(rt; image.starts_with(b"A\0"));
+    assert_eq!(rt; image.get(4096).copied(), Some(5));
+    assert_eq!(rt; image.last().copied(), Some(5));
     Ok(())
 }
 
@@ -283,8 +388,13 @@ fn stops_at_failing_puts(rt: HostRuntime) -> Result<(), Fail> {
 fn stops_at_a_failing_read(rt: HostRuntime) -> Result<(), Fail> {
     let alloc = rt.alloc();
     let file = guest_file(alloc, "")?;
-    let end = step(alloc, file.as_bytes(), true, &[2], &[], 0)?;
-    assert_eq!(rt; end.status, Some(Status::Source));
+    for read in [1, 2, 98] {
+        let end = step(alloc, file.as_bytes(), true, &[read], &[], 0)?;
+        assert_eq!(rt; end.status, Some(Status::Source), "read {read}");
+        for port in [Port::Report, Port::Stream, Port::Image, Port::Journal] {
+            assert!(rt; end.out.bytes(port).is_empty(), "read {read}");
+        }
+    }
     Ok(())
 }
 

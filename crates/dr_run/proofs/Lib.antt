@@ -1,2 +1,7 @@
 pub mod Sent
 pub mod Limits
+pub mod Calm
+pub mod Executing
+pub mod Rounding
+pub mod Steps
+pub mod Ending

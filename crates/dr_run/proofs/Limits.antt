@@ -1,7 +1,8 @@
 -- How large the numbers of a run are.
-use Rattle.std.proofs.Common.{◌≡◌, ℕ, ◌<◌, ◌≤◌, ◌^◌, true, List, arith}
-use Rattle.std.proofs.lemmas.Bool.{le-leb}
-use Rattle.dr_types.specs.Pages.{page_count, pages_of_slots}
+use Rattle.std.proofs.Common.{◌≡◌, ℕ, ◌%◌, ◌<◌, ◌≤◌, ◌^◌, true, List, Option, Some, None, is_some, arith}
+use Rattle.std.specs.Prelude.{IfSome}
+use Rattle.std.proofs.lemmas.Bool.{le-leb, false≢true}
+use Rattle.dr_types.specs.Pages.{page_count, page_of_address, pages_of_slots}
 use Rattle.dr_types.specs.Validity.{Lies}
 use Rattle.dr_history.specs.Rules.{in_one_page}
 use Rattle.dr_types.specs.declared.guest.Guest.{Guest}
@@ -10,6 +11,8 @@ use Rattle.dr_types.specs.Validity.{IsValid}
 use Rattle.dr_history.specs.declared.event.Event.{Event}
 use Rattle.dr_history.specs.Execution.{ops}
 use Rattle.dr_history.specs.Legality.{IsLegalSoFar}
+use Rattle.dr_history.specs.Memory.{page_bytes, loaded}
+use Rattle.dr_may.specs.Operations.{loaded_from, value_at}
 use Rattle.dr_law.specs.Length.{script_length}
 use Rattle.dr_law.proofs.Length.{stays_in_script}
 use Rattle.dr_law.proofs.Limits.{script_in_total}
@@ -27,3 +30,13 @@ few_pages guest valid = let few : pages_of_slots guest.slots ≤ 16384 = valid.s
 -- bytes of an op lie in one page
 pub lies_in_one_page : (guest : Guest) (address bytes : ℕ) → Lies guest.slots address bytes → in_one_page guest address bytes ≡ true
 lies_in_one_page guest address bytes lies = rw lies.mapped (le-leb _ _ lies.in_page)
+
+loaded_is : (guest : Guest) (past : List Event) (at value : ℕ) (place : Option ℕ) → is_some place ≡ true → IfSome place (λ page. value ≡ loaded (page_bytes guest page past) at) → value ≡ loaded_from guest past at place
+loaded_is guest past at value None some is = absurd (false≢true some)
+loaded_is guest past at value (Some page) some is = is
+
+-- what a load gives, where its bytes lie in one page
+pub value_is : (guest : Guest) (past : List Event) (address value : ℕ) → Lies guest.slots address 8
+    → IfSome (page_of_address guest address) (λ page. value ≡ loaded (page_bytes guest page past) (address % 4096)) → value ≡ value_at guest past address
+unfolding value_at
+value_is guest past address value lies is = loaded_is guest past (address % 4096) value (page_of_address guest address) lies.mapped is

@@ -1,2 +1,5 @@
 pub mod Built
 pub mod Going
+pub mod Execution
+pub mod Rounds
+pub mod Ended

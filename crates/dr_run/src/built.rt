@@ -20,7 +20,8 @@ fn all_halt_in(pace: u32, scripts: &[Script]) -> bool
     scripts.iter().all(|script| halts_in(pace, script))
 }
 
-/// The guest is one that `run_halting` takes: each script, written out, is no longer than the pace, there
+/// The guest is one that `run_halting` takes: each script, written out, is no longer than the pace,
+/// there
 /// is no quota, and there is a second round where the first leaves more pages than the threshold.
 #[tactic(auto, unfolding(crate::specs::Built::is_built_for))]
 pub fn is_built(guest: &Guest) -> bool

@@ -1,17 +1,20 @@
-ghost use Rattle.std.specs.Prelude.{◌≡◌, ◌≤◌, ◌<◌, OnOk, IfErr, IfSome};
+ghost use Rattle.std.specs.Prelude.{◌≡◌, ◌≤◌, ◌<◌, ◌+◌, true, None, OnOk, OnErr, IfErr, IfSome};
+ghost use Rattle.dr_types.specs.Pages.{page_of_frame};
 ghost use Rattle.dr_types.specs.Scripts.{vcpu_count};
 ghost use Rattle.dr_types.specs.Validity.{IsValid};
 ghost use Rattle.dr_history.specs.Execution.{ops};
 ghost use Rattle.dr_history.specs.Lines.{FitsLine};
+ghost use Rattle.dr_history.specs.Times.{times};
+ghost use Rattle.dr_may.specs.Operations.{op_event, page_or_zero, value_at};
 ghost use Rattle.dr_script.specs.Fits.{IsOpOrHalt};
-ghost use Rattle.dr_run.specs.Going.{IsFault, IsSilent, StaysSent};
+ghost use Rattle.dr_run.specs.Execution.{HasEnded, HaveRun, IsRunning, MayExecute};
+ghost use Rattle.dr_run.specs.Going.{GetsCut, Goes, IsFault, StaysSent};
 
 use crate::run::{Run, RunFault};
 use dr_core::Core;
 use dr_history::Event;
 use dr_io::Outlet;
 use dr_slots::page_of_frame;
-use dr_types::limits::MOST_OPS;
 use dr_types::{Guest, Op, Why};
 
 /// How many ops a vCPU has executed.
@@ -25,38 +28,36 @@ fn ops_done(core: &Core, v: u32) -> u32
     core.ops(v) as u32
 }
 
-/// The event of an op that fills the page of a frame.
+/// The page of a frame that an op fills.
 #[tactic(auto, using(crate::proofs::Limits::few_pages))]
-fn paint(guest: &Guest, v: u32, i: u32, gfn: u64, byte: u8) -> Event
+fn filled_page(guest: &Guest, gfn: u64, byte: u8) -> u32
     requires valid { IsValid guest.now }
     requires fits { IsOpOrHalt guest.now.slots (Op.F gfn byte) }
-    ensures fits { FitsLine result }
-    ensures silent { IsSilent result }
+    ensures { result ≡ page_or_zero (page_of_frame guest.now.slots gfn) }
 {
     match page_of_frame(guest, gfn) {
-        Some(page) => Event::Paint { v, i, page, byte },
+        Some(page) => page,
         None => unreachable!(),
     }
 }
 
-/// The event of an op that loads from an address.
-#[tactic(auto, using(crate::proofs::Limits::lies_in_one_page))]
-fn load(core: &Core, v: u32, i: u32, addr: u64) -> Event
+/// The value that an op loads from an address.
+#[tactic(auto, using(crate::proofs::Limits::lies_in_one_page, crate::proofs::Limits::value_is))]
+fn value_loaded(core: &Core, addr: u64) -> u64
     requires { IsOpOrHalt core.now.guest.slots (Op.R addr) }
-    ensures fits { FitsLine result }
-    ensures silent { IsSilent result }
+    ensures { result ≡ value_at core.now.guest core.now.past addr }
 {
-    let value = core.loaded(addr);
-    Event::Read { v, i, addr, value }
+    core.loaded(addr)
 }
 
 /// The event of the vCPU's op of this number.
-fn event_of(core: &Core, v: u32, i: u32, op: Op) -> Event
+fn event_of(core: &Core, v: u32, op: Op) -> Event
     requires vcpu { v < vcpu_count core.now.guest }
     requires fits { IsOpOrHalt core.now.guest.slots op }
+    ensures is { result ≡ op_event core.now.guest v core.now.past op }
     ensures fits { FitsLine result }
-    ensures silent { IsSilent result }
 {
+    let i = ops_done(core, v);
     match op {
         Op::W { addr, len, value } => Event::Write {
             v,
@@ -65,8 +66,18 @@ fn event_of(core: &Core, v: u32, i: u32, op: Op) -> Event
             len,
             value,
         },
-        Op::F { gfn, byte } => paint(core.guest(), v, i, gfn, byte),
-        Op::R { addr } => load(core, v, i, addr),
+        Op::F { gfn, byte } => Event::Paint {
+            v,
+            i,
+            page: filled_page(core.guest(), gfn, byte),
+            byte,
+        },
+        Op::R { addr } => Event::Read {
+            v,
+            i,
+            addr,
+            value: value_loaded(core, addr),
+        },
         Op::S { addr } => Event::Write {
             v,
             i,
@@ -80,46 +91,67 @@ fn event_of(core: &Core, v: u32, i: u32, op: Op) -> Event
 }
 
 /// The event of the op that a vCPU executes next; `None` where its script is at its end.
-#[tactic(auto, using(dr_script::proofs::Fits::op_fits))]
 fn next_event(core: &Core, v: u32) -> Option<Event>
-    requires { v < vcpu_count core.now.guest }
-    ensures fits { IfSome result FitsLine }
-    ensures silent { IfSome result IsSilent }
+    requires vcpu { v < vcpu_count core.now.guest }
+    requires running { IsRunning core.now.guest core.now.past v }
+    ensures next { IfSome result (MayExecute core.now.guest core.now.past v) }
+    ensures end { result ≡ None → HasEnded core.now.guest core.now.past v }
 {
     let _guest = core.guest();
-    let i = ops_done(core, v);
+    let _history = core.history();
     let op = core.next_op(v)?;
-    Some(event_of(core, v, i, op))
+    Some(event_of(core, v, op))
 }
 
 impl<O: Outlet> Run<O> {
-    /// Executes all ops of a vCPU, up to its halt, and leaves the guest.
-    pub(crate) fn run_vcpu(&mut self, v: u32) -> Result<(), RunFault>
-        requires { v < vcpu_count self.old.guest }
+    /// A vCPU whose script is executed leaves the guest.
+    #[tactic(auto, using(crate::proofs::Executing::may_leave, crate::proofs::Steps::step_leaves))]
+    fn leave(&mut self, v: u32) -> Result<(), RunFault>
+        requires vcpu { v < vcpu_count self.old.guest }
+        requires running { IsRunning self.old.guest self.old.past v }
+        requires ended { HasEnded self.old.guest self.old.past v }
+        ensures run { OnOk result (HaveRun self.new.guest self.new.past (v + 1)) }
         ensures sent { OnOk result (StaysSent self.old self.new) }
+        ensures cut { OnErr result (GetsCut self.old self.new) }
+        ensures goes { Goes self.old self.new }
+        ensures times { times self.new.past ≡ times self.old.past }
         ensures pages { self.new.pages ≡ self.old.pages }
-        ensures guest { self.new.guest ≡ self.old.guest }
-        ensures later { self.old.faults ≤ self.new.faults }
         ensures fault { IfErr result (IsFault self.old.faults self.new.faults) }
     {
-        for _ in 0..MOST_OPS {
-            let Some(event) = next_event(&self.core, v) else {
-                break;
-            };
-            self.take(event)?;
-        }
         self.take(Event::Exited {
             v,
             why: Why::Halted,
         })
     }
 
+    /// Executes all ops of a vCPU, up to its halt, and leaves the guest.
+    pub(crate) fn run_vcpu(&mut self, v: u32) -> Result<(), RunFault>
+        requires vcpu { v < vcpu_count self.old.guest }
+        requires run { HaveRun self.old.guest self.old.past v }
+        ensures run { OnOk result (HaveRun self.new.guest self.new.past (v + 1)) }
+        ensures sent { OnOk result (StaysSent self.old self.new) }
+        ensures cut { OnErr result (GetsCut self.old self.new) }
+        ensures goes { Goes self.old self.new }
+        ensures times { times self.new.past ≡ times self.old.past }
+        ensures pages { self.new.pages ≡ self.old.pages }
+        ensures fault { IfErr result (IsFault self.old.faults self.new.faults) }
+    {
+        while let Some(event) = next_event(&self.core, v) {
+            self.take(event)?;
+        }
+        self.leave(v)
+    }
+
     /// Executes the scripts of all vCPUs, one behind the other.
     pub(crate) fn run_vcpus(&mut self) -> Result<(), RunFault>
+        requires run { HaveRun self.old.guest self.old.past 0 }
+        ensures run { let guest = self.new.guest in
+            OnOk result (HaveRun guest self.new.past (vcpu_count guest)) }
         ensures sent { OnOk result (StaysSent self.old self.new) }
+        ensures cut { OnErr result (GetsCut self.old self.new) }
+        ensures goes { Goes self.old self.new }
+        ensures times { times self.new.past ≡ times self.old.past }
         ensures pages { self.new.pages ≡ self.old.pages }
-        ensures guest { self.new.guest ≡ self.old.guest }
-        ensures later { self.old.faults ≤ self.new.faults }
         ensures fault { IfErr result (IsFault self.old.faults self.new.faults) }
     {
         for v in 0..self.core.vcpus() {

@@ -4,9 +4,10 @@
 
 mod built;
 mod execution;
+mod halting;
 mod migration;
 mod run;
 
 pub use built::is_built;
-pub use migration::{RunEnd, run_halting};
+pub use halting::{RunEnd, run_halting};
 pub use run::RunFault;

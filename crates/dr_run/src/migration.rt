@@ -1,19 +1,20 @@
-ghost use Rattle.std.specs.Prelude.{◌≡◌, ◌≤◌, ◌<◌, ◌+◌, ◌-◌, ◌^◌, ◌||◌, true, nat_lt, OnOk, OnErr, IfOk, IfErr, IfSome};
+ghost use Rattle.std.specs.Prelude.{◌≡◌, ◌≤◌, ◌<◌, ◌+◌, ◌-◌, ◌^◌, [], ◌∷◌, ◌||◌, true, false, nat_lt, None, length, All, OnOk, OnErr, IfOk, IfErr, IfSome};
 ghost use Rattle.dr_types.specs.Pages.{page_count};
-ghost use Rattle.dr_types.specs.Ports.{put_at};
+ghost use Rattle.dr_types.specs.Scripts.{vcpu_count};
 ghost use Rattle.dr_types.specs.Validity.{IsValid};
-ghost use Rattle.dr_history.specs.Legality.{IsLegal};
-ghost use Rattle.dr_history.specs.Stream.{stream_of};
+ghost use Rattle.dr_history.specs.Dirty.{dirty_pages};
+ghost use Rattle.dr_history.specs.Times.{times};
 ghost use Rattle.dr_history.specs.Vcpus.{stopped};
-ghost use Rattle.dr_run.specs.Going.{Going, IsFault, StaysSent, ends_switched};
+ghost use Rattle.dr_law.specs.Copies.{copies};
+ghost use Rattle.dr_run.specs.Built.{is_built_for};
+ghost use Rattle.dr_run.specs.Execution.{AllLeft, HaveRun};
+ghost use Rattle.dr_run.specs.Going.{GetsCut, Goes, IsFault, MayAddTime, StaysSent, ends_switched};
+ghost use Rattle.dr_run.specs.Rounds.{AllCopied, HasAnswered, IsAnswer, IsAsked, IsBetween, IsCopying, IsFew, IsGoing, IsNext, IsStopped, IsTurn, SameRound};
 
-use crate::run::{Run, RunFault, offer};
+use crate::run::{Run, RunFault};
 use dr_core::Core;
 use dr_history::Event;
-use dr_io::{Clock, Outlet, Port, PutTurn};
-use dr_stream::Sender;
-use dr_types::Guest;
-use std::alloc::Global;
+use dr_io::{Clock, Outlet, PutTurn};
 
 /// What a put answered, as the answer of a run.
 fn sent(turn: PutTurn) -> Result<(), RunFault>
@@ -27,219 +28,247 @@ fn sent(turn: PutTurn) -> Result<(), RunFault>
     }
 }
 
-/// The page of the open round that is copied next.
-fn next_page(core: &Core) -> Option<u32>
-    ensures { IfSome result (λ page. page < page_count core.now.guest) }
+/// The page of the open round that is copied next; `None` where all are copied.
+fn next_page(core: &Core, r: u32) -> Option<u32>
+    requires { IsCopying core.now.guest core.now.past r }
+    ensures next { IfSome result (IsNext core.now.guest core.now.past r) }
+    ensures end { result ≡ None → AllCopied core.now.past }
 {
     let _history = core.history();
     core.next_copy()
 }
 
+/// Where the pages of a round are copied no page is dirty, since no vCPU runs.
+fn none_is_dirty(core: &Core, r: u32)
+    requires copying { IsCopying core.now.guest core.now.past r }
+    requires copied { AllCopied core.now.past }
+    ensures { dirty_pages core.now.guest core.now.past ≡ [] }
+{
+    let _history = core.history();
+}
+
 impl<O: Outlet> Run<O> {
     /// Logging starts, and with it the stream.
-    #[tactic(auto, using(crate::proofs::Sent::record_stays))]
+    #[tactic(auto, using(crate::proofs::Sent::record_stays, crate::proofs::Sent::still_cut, crate::proofs::Rounding::may_start))]
     fn begin(&mut self, now: u64) -> Result<(), RunFault>
+        requires run { HaveRun self.old.guest self.old.past (vcpu_count self.old.guest) }
+        ensures between { OnOk result (IsBetween self.new.guest self.new.past 1) }
+        ensures going { OnOk result (IsGoing self.new.past) }
         ensures sent { OnOk result (StaysSent self.old self.new) }
+        ensures cut { OnErr result (GetsCut self.old self.new) }
+        ensures goes { Goes self.old self.new }
+        ensures times { MayAddTime now self.old.past self.new.past }
         ensures pages { self.new.pages ≡ self.old.pages }
-        ensures guest { self.new.guest ≡ self.old.guest }
-        ensures later { self.old.faults ≤ self.new.faults }
         ensures fault { IfErr result (IsFault self.old.faults self.new.faults) }
     {
-        offer(&mut self.core, Event::Start { at: now })?;
+        self.core.append(Event::Start { at: now })?;
         let pages = self.core.pages();
         sent(self.sender.header(pages))
     }
 
     /// An answer of so many pages would open a round: its pages are to be copied.
     fn would_open(&self, count: usize) -> bool
-        ensures { result ≡ (nat_lt self.now.guest.settings.threshold count || stopped self.now.past) }
+        ensures { let threshold = self.now.guest.settings.threshold in
+            result ≡ (nat_lt threshold count || stopped self.now.past) }
     {
         let many = count > self.core.guest().settings.threshold as usize;
         let stopped = self.core.stopped();
         many || stopped
     }
 
-    /// A round is asked and answered at once, since no vCPU is in the guest. Answers how many pages are
-    /// dirty.
-    #[tactic(auto, using(crate::proofs::Sent::opened_stays, crate::proofs::Sent::closed_stays))]
-    fn synchronise(&mut self, r: u32, now: u64) -> Result<usize, RunFault>
+    /// Round r is asked.
+    #[tactic(auto, using(crate::proofs::Rounding::may_ask_next))]
+    fn ask(&mut self, r: u32) -> Result<(), RunFault>
+        requires between { IsBetween self.old.guest self.old.past r }
+        requires turn { IsTurn self.old.guest self.old.past }
+        ensures past { OnOk result (self.new.past ≡ Event.Asked r ∷ self.old.past) }
         ensures sent { OnOk result (StaysSent self.old self.new) }
+        ensures cut { OnErr result (GetsCut self.old self.new) }
+        ensures goes { Goes self.old self.new }
+        ensures times { times self.new.past ≡ times self.old.past }
         ensures pages { self.new.pages ≡ self.old.pages }
-        ensures guest { self.new.guest ≡ self.old.guest }
-        ensures later { self.old.faults ≤ self.new.faults }
         ensures fault { IfErr result (IsFault self.old.faults self.new.faults) }
     {
-        self.take(Event::Asked { r })?;
-        self.answer(r, now)
+        self.take(Event::Asked { r })
     }
 
-    /// The round that was asked is answered.
-    #[tactic(auto, using(crate::proofs::Sent::opened_stays, crate::proofs::Sent::closed_stays))]
+    /// The round that was asked is answered. Answers how many pages are dirty.
+    #[tactic(auto, using(crate::proofs::Sent::opened_stays, crate::proofs::Sent::closed_stays, crate::proofs::Sent::still_cut, crate::proofs::Rounding::may_answer_asked))]
     fn answer(&mut self, r: u32, now: u64) -> Result<usize, RunFault>
+        requires asked { IsAsked self.old.guest self.old.past r }
+        ensures past { IfOk result (IsAnswer self.old.guest r now self.old.past self.new.past) }
         ensures sent { OnOk result (StaysSent self.old self.new) }
+        ensures cut { OnErr result (GetsCut self.old self.new) }
+        ensures goes { Goes self.old self.new }
+        ensures times { MayAddTime now self.old.past self.new.past }
         ensures pages { self.new.pages ≡ self.old.pages }
-        ensures guest { self.new.guest ≡ self.old.guest }
-        ensures later { self.old.faults ≤ self.new.faults }
         ensures fault { IfErr result (IsFault self.old.faults self.new.faults) }
     {
         let pages = self.core.dirty_pages(self.alloc)?;
         let count = pages.len();
         let opens = self.would_open(count);
-        offer(&mut self.core, Event::Synced { r, at: now, pages })?;
+        self.core.append(Event::Synced { r, at: now, pages })?;
         if opens {
             sent(self.sender.round(r))?;
         }
         Ok(count)
     }
 
-    /// The next page of the open round is copied.
-    #[tactic(auto, using(crate::proofs::Sent::record_stays, dr_history::proofs::Pages::whole_page))]
-    fn copy(&mut self, r: u32, page: u32) -> Result<(), RunFault>
-        requires page { page < page_count self.old.guest }
-        requires few { self.old.pages < 2 ^ 32 - 1 }
+    /// A round is asked and answered at once, since no vCPU is in the guest. Answers how many pages
+    /// are dirty.
+    #[tactic(auto, using(crate::proofs::Sent::then_cut, crate::proofs::Sent::then_stays, crate::proofs::Calm::goes_on))]
+    fn synchronise(&mut self, r: u32, now: u64) -> Result<usize, RunFault>
+        requires between { IsBetween self.old.guest self.old.past r }
+        requires turn { IsTurn self.old.guest self.old.past }
+        ensures answered { IfOk result
+            (HasAnswered self.old.guest r now self.old.past self.new.past) }
         ensures sent { OnOk result (StaysSent self.old self.new) }
-        ensures pages { self.new.pages ≤ self.old.pages + 1 }
-        ensures guest { self.new.guest ≡ self.old.guest }
-        ensures later { self.old.faults ≤ self.new.faults }
+        ensures cut { OnErr result (GetsCut self.old self.new) }
+        ensures goes { Goes self.old self.new }
+        ensures times { MayAddTime now self.old.past self.new.past }
+        ensures pages { self.new.pages ≡ self.old.pages }
         ensures fault { IfErr result (IsFault self.old.faults self.new.faults) }
     {
-        offer(&mut self.core, Event::Copied { r, page })?;
+        self.ask(r)?;
+        self.answer(r, now)
+    }
+
+    /// The next page of the open round is copied.
+    #[tactic(auto, using(crate::proofs::Sent::record_stays, crate::proofs::Sent::still_cut, crate::proofs::Rounding::may_copy_next, dr_history::proofs::Pages::whole_page))]
+    fn copy(&mut self, r: u32, page: u32) -> Result<(), RunFault>
+        requires copying { IsCopying self.old.guest self.old.past r }
+        requires next { IsNext self.old.guest self.old.past r page }
+        requires few { self.old.pages < 2 ^ 32 - 1 }
+        ensures past { OnOk result (self.new.past ≡ Event.Copied r page ∷ self.old.past) }
+        ensures sent { OnOk result (StaysSent self.old self.new) }
+        ensures cut { OnErr result (GetsCut self.old self.new) }
+        ensures goes { Goes self.old self.new }
+        ensures times { times self.new.past ≡ times self.old.past }
+        ensures pages { OnOk result (self.new.pages ≡ self.old.pages + 1) }
+        ensures fault { IfErr result (IsFault self.old.faults self.new.faults) }
+    {
+        self.core.append(Event::Copied { r, page })?;
         sent(self.sender.page(page, self.core.page(page)))
     }
 
     /// All pages of the open round are copied.
     fn copy_round(&mut self, r: u32) -> Result<(), RunFault>
+        requires copying { IsCopying self.old.guest self.old.past r }
+        requires fresh { copies self.old.past ≡ 0 }
         requires few { self.old.pages + page_count self.old.guest < 2 ^ 32 - 1 }
+        ensures copying { OnOk result (IsCopying self.new.guest self.new.past r) }
+        ensures copied { OnOk result (AllCopied self.new.past) }
+        ensures same { OnOk result (SameRound self.old.past self.new.past) }
         ensures sent { OnOk result (StaysSent self.old self.new) }
-        ensures pages { self.new.pages ≤ self.old.pages + page_count self.old.guest }
-        ensures guest { self.new.guest ≡ self.old.guest }
-        ensures later { self.old.faults ≤ self.new.faults }
+        ensures cut { OnErr result (GetsCut self.old self.new) }
+        ensures goes { Goes self.old self.new }
+        ensures times { times self.new.past ≡ times self.old.past }
+        ensures pages { OnOk result (self.new.pages ≤ self.old.pages + page_count self.old.guest) }
         ensures fault { IfErr result (IsFault self.old.faults self.new.faults) }
     {
-        for copied in 0..self.core.pages() {
-            let Some(page) = next_page(&self.core) else {
-                break;
-            };
+        while let Some(page) = next_page(&self.core, r) {
             self.copy(r, page)?;
         }
         Ok(())
     }
 
     /// The guest switches over, and the stream ends.
-    #[tactic(auto, using(crate::proofs::Sent::switch_stays))]
-    fn switch(&mut self) -> Result<(), RunFault>
-        ensures sent { OnOk result (StaysSent self.old self.new) }
+    #[tactic(auto, using(crate::proofs::Sent::switch_stays, crate::proofs::Sent::still_cut, crate::proofs::Rounding::may_switch_copied))]
+    fn switch(&mut self, r: u32) -> Result<(), RunFault>
+        requires copying { IsCopying self.old.guest self.old.past r }
+        requires copied { AllCopied self.old.past }
+        requires stopped { IsStopped self.old.past }
         ensures ended { OnOk result (ends_switched self.new.past ≡ true) }
-        ensures guest { self.new.guest ≡ self.old.guest }
-        ensures later { self.old.faults ≤ self.new.faults }
+        ensures left { OnOk result (AllLeft self.new.guest self.new.past) }
+        ensures sent { OnOk result (StaysSent self.old self.new) }
+        ensures cut { OnErr result (GetsCut self.old self.new) }
+        ensures goes { Goes self.old self.new }
+        ensures times { times self.new.past ≡ times self.old.past }
         ensures fault { IfErr result (IsFault self.old.faults self.new.faults) }
     {
-        offer(&mut self.core, Event::Switched)?;
+        self.core.append(Event::Switched)?;
         sent(self.sender.finish())
+    }
+
+    /// The guest is stopped.
+    #[tactic(auto, using(crate::proofs::Rounding::may_stop_few, crate::proofs::Steps::step_stops))]
+    fn stop(&mut self, r: u32) -> Result<(), RunFault>
+        requires few { IsFew self.old.guest self.old.past r }
+        ensures between { OnOk result (IsBetween self.new.guest self.new.past r) }
+        ensures turn { OnOk result (IsTurn self.new.guest self.new.past) }
+        ensures stopped { OnOk result (stopped self.new.past ≡ true) }
+        ensures sent { OnOk result (StaysSent self.old self.new) }
+        ensures cut { OnErr result (GetsCut self.old self.new) }
+        ensures goes { Goes self.old self.new }
+        ensures times { times self.new.past ≡ times self.old.past }
+        ensures pages { self.new.pages ≡ self.old.pages }
+        ensures fault { IfErr result (IsFault self.old.faults self.new.faults) }
+    {
+        self.take(Event::Stopped)
     }
 
     /// The guest is stopped, the last round is copied, and the guest switches over.
     fn switch_over<C: Clock>(&mut self, r: u32, clock: &C) -> Result<(), RunFault>
-        requires few { self.old.pages + page_count self.old.guest < 2 ^ 32 - 1 }
-        ensures sent { OnOk result (StaysSent self.old self.new) }
+        requires few { IsFew self.old.guest self.old.past r }
+        requires room { self.old.pages + page_count self.old.guest < 2 ^ 32 - 1 }
         ensures ended { OnOk result (ends_switched self.new.past ≡ true) }
-        ensures guest { self.new.guest ≡ self.old.guest }
-        ensures later { self.old.faults ≤ self.new.faults }
+        ensures left { OnOk result (AllLeft self.new.guest self.new.past) }
+        ensures sent { OnOk result (StaysSent self.old self.new) }
+        ensures cut { OnErr result (GetsCut self.old self.new) }
+        ensures goes { Goes self.old self.new }
+        ensures times { All (C.reads clock.now) (times self.old.past)
+            → All (C.reads clock.now) (times self.new.past) }
         ensures fault { IfErr result (IsFault self.old.faults self.new.faults) }
     {
-        self.take(Event::Stopped)?;
+        self.stop(r)?;
         let _count = self.synchronise(r, clock.now_us())?;
         self.copy_round(r)?;
-        self.switch()
+        self.switch(r)
     }
 
-    /// Rounds of copies, until so few pages are left that the guest is stopped.
-    fn copy_rounds<C: Clock>(&mut self, clock: &C) -> Result<(), RunFault>
-        requires few { self.old.pages ≡ 0 }
+    /// Rounds of copies, until few pages are left. Answers the number of the round that comes next.
+    fn copy_rounds<C: Clock>(&mut self, clock: &C) -> Result<u32, RunFault>
+        requires between { IsBetween self.old.guest self.old.past 1 }
+        requires going { IsGoing self.old.past }
         requires valid { IsValid self.old.guest }
+        requires built { is_built_for self.old.guest ≡ true }
+        requires fresh { self.old.pages ≡ 0 }
+        ensures few { IfOk result (IsFew self.new.guest self.new.past) }
+        ensures room { OnOk result (self.new.pages + page_count self.new.guest < 2 ^ 32 - 1) }
         ensures sent { OnOk result (StaysSent self.old self.new) }
-        ensures ended { OnOk result (ends_switched self.new.past ≡ true) }
-        ensures guest { self.new.guest ≡ self.old.guest }
-        ensures later { self.old.faults ≤ self.new.faults }
+        ensures cut { OnErr result (GetsCut self.old self.new) }
+        ensures goes { Goes self.old self.new }
+        ensures times { All (C.reads clock.now) (times self.old.past)
+            → All (C.reads clock.now) (times self.new.past) }
         ensures fault { IfErr result (IsFault self.old.faults self.new.faults) }
     {
-        let settings = self.core.guest().settings;
-        for round in 0..settings.rounds {
-            let count = self.synchronise(round + 1, clock.now_us())?;
-            if count <= settings.threshold as usize {
-                return self.switch_over(round + 2, clock);
-            }
-            self.copy_round(round + 1)?;
+        let count = self.synchronise(1, clock.now_us())?;
+        if count <= self.core.guest().settings.threshold as usize {
+            return Ok(2);
         }
-        // No guest that is taken comes here: its second answer has no page.
-        Err(RunFault::Memory)
+        self.copy_round(1)?;
+        none_is_dirty(&self.core, 1);
+        let _none = self.synchronise(2, clock.now_us())?;
+        Ok(3)
     }
 
     /// Everything from the first op to the switch-over.
-    fn migrate<C: Clock>(&mut self, clock: &C) -> Result<(), RunFault>
-        requires few { self.old.pages ≡ 0 }
+    pub(crate) fn migrate<C: Clock>(&mut self, clock: &C) -> Result<(), RunFault>
+        requires fresh { self.old.past ≡ [] }
+        requires none { self.old.pages ≡ 0 }
         requires valid { IsValid self.old.guest }
-        ensures sent { OnOk result (StaysSent self.old self.new) }
+        requires built { is_built_for self.old.guest ≡ true }
         ensures ended { OnOk result (ends_switched self.new.past ≡ true) }
-        ensures guest { self.new.guest ≡ self.old.guest }
-        ensures later { self.old.faults ≤ self.new.faults }
+        ensures left { OnOk result (AllLeft self.new.guest self.new.past) }
+        ensures sent { OnOk result (StaysSent self.old self.new) }
+        ensures cut { OnErr result (GetsCut self.old self.new) }
+        ensures goes { Goes self.old self.new }
+        ensures times { All (C.reads clock.now) (times self.new.past) }
         ensures fault { IfErr result (IsFault self.old.faults self.new.faults) }
     {
         self.run_vcpus()?;
         self.begin(clock.now_us())?;
-        self.copy_rounds(clock)
-    }
-}
-
-/// How a run ended: the judge with its history, or why there is none to its end; and the outlet.
-#[derive(Drop)]
-pub struct RunEnd<O: Outlet> {
-    pub end: Result<Core, RunFault>,
-    pub out: O,
-}
-
-/// Runs a guest whose vCPUs halt before logging starts, and puts its stream. Memory may also stand for
-/// an event that was refused, which no guest of `is_built` leads to.
-pub fn run_halting<O: Outlet, C: Clock>(
-    alloc: Global,
-    guest: &Guest,
-    out: O,
-    clock: &C,
-) -> RunEnd<O>
-    requires { IsValid guest.now }
-    ensures guest { IfOk result.end (λ core. core.guest ≡ guest.now) }
-    ensures legal { IfOk result.end (λ core. IsLegal guest.now core.past) }
-    ensures switched { IfOk result.end (λ core. ends_switched core.past ≡ true) }
-    ensures sent { IfOk result.end (λ core. O.told result.out
-        ≡ put_at Port.Stream (stream_of guest.now core.past) (O.told out)) }
-    ensures later { O.faults out ≤ O.faults result.out }
-    ensures fault { IfErr result.end (IsFault (O.faults out) (O.faults result.out)) }
-{
-    let core = match Core::new(alloc, guest) {
-        Ok(core) => core,
-        Err(_) => {
-            return RunEnd {
-                end: Err(RunFault::Memory),
-                out,
-            };
-        }
-    };
-    let mut run = Run {
-        alloc,
-        core,
-        sender: Sender::new(out),
-    };
-    let end = run.migrate(clock);
-    let _history = run.core.history();
-    let out = run.sender.into_outlet();
-    match end {
-        Ok(()) => RunEnd {
-            end: Ok(run.core),
-            out,
-        },
-        Err(fault) => RunEnd {
-            end: Err(fault),
-            out,
-        },
+        let next = self.copy_rounds(clock)?;
+        self.switch_over(next, clock)
     }
 }

@@ -1,8 +1,10 @@
-ghost use Rattle.std.specs.Prelude.{◌≡◌, ◌≤◌, ◌∷◌, OnOk, OnErr, IfErr};
+ghost use Rattle.std.specs.Prelude.{◌≡◌, ◌≤◌, ◌∷◌, true, OnOk, OnErr, IfErr};
 ghost use Rattle.dr_history.specs.Lines.{FitsLine};
-ghost use Rattle.dr_run.specs.Going.{Going, IsFault, IsSilent, StaysSent};
+ghost use Rattle.dr_history.specs.Times.{times};
+ghost use Rattle.dr_may.specs.May.{MayFollow};
+ghost use Rattle.dr_run.specs.Going.{Going, Goes, GetsCut, IsFault, IsSilent, StaysSent, is_unlogged};
 
-use dr_core::{Core, CoreFault};
+use dr_core::Core;
 use dr_history::Event;
 use dr_io::Outlet;
 use dr_stream::Sender;
@@ -30,7 +32,7 @@ impl From<Memory> for RunFault {
     }
 }
 
-/// A guest that runs: the judge of its events, and the sender of its stream.
+/// A guest that runs: the keeper of its events, and the sender of its stream.
 #[derive(Drop)]
 pub struct Run<O: Outlet> {
     pub(crate) alloc: Global,
@@ -52,35 +54,23 @@ impl<O: Outlet> Model for Run<O> {
     } };
 }
 
-/// Gives an event to the judge.
-pub fn offer(core: &mut Core, e: Event) -> Result<(), RunFault>
-    requires { FitsLine e }
-    ensures took { OnOk result (core.new.past ≡ e ∷ core.old.past) }
-    ensures kept { OnErr result (core.new.past ≡ core.old.past) }
-    ensures guest { core.new.guest ≡ core.old.guest }
-    ensures fault { IfErr result (λ fault. fault ≡ RunFault.Memory) }
-{
-    // No event that a run offers breaks a rule, so what is left is want of memory.
-    match core.step(e) {
-        Ok(()) => Ok(()),
-        Err(CoreFault::Memory) => Err(RunFault::Memory),
-        Err(CoreFault::Illegal { .. }) => Err(RunFault::Memory),
-    }
-}
-
 impl<O: Outlet> Run<O> {
-    /// Takes an event that puts nothing on the stream.
-    #[tactic(auto, using(crate::proofs::Sent::silent_stays))]
+    /// Takes an event that breaks no rule and puts nothing on the stream.
+    #[tactic(auto, using(crate::proofs::Sent::silent_stays, crate::proofs::Sent::still_cut, crate::proofs::Calm::event_goes, crate::proofs::Calm::same_goes, crate::proofs::Calm::silent_times))]
     pub(crate) fn take(&mut self, e: Event) -> Result<(), RunFault>
         requires fits { FitsLine e }
+        requires follows { MayFollow self.old.guest self.old.past e }
         requires silent { IsSilent e }
+        requires unlogged { is_unlogged e ≡ true }
         ensures past { OnOk result (self.new.past ≡ e ∷ self.old.past) }
         ensures sent { OnOk result (StaysSent self.old self.new) }
+        ensures cut { OnErr result (GetsCut self.old self.new) }
+        ensures goes { Goes self.old self.new }
+        ensures times { times self.new.past ≡ times self.old.past }
         ensures pages { self.new.pages ≡ self.old.pages }
-        ensures guest { self.new.guest ≡ self.old.guest }
-        ensures later { self.old.faults ≤ self.new.faults }
         ensures fault { IfErr result (IsFault self.old.faults self.new.faults) }
     {
-        offer(&mut self.core, e)
+        self.core.append(e)?;
+        Ok(())
     }
 }

@@ -1,11 +1,16 @@
-use Rattle.std.proofs.Common.{subst}
+use Rattle.std.proofs.Common.{subst, sym, ◌∙◌}
 use Rattle.dr_history.specs.Legality.{IsLegalSoFar}
-use Rattle.dr_law.specs.Copies.{copies}
-use Rattle.dr_law.proofs.Named.{next_is_within}
+use Rattle.dr_run.proofs.Rounding.{next_is, none_next}
 use Rattle.dr_run.proofs.migration.next_page.Goals as goal
 
-pub returns : goal.returns
-returns c =
+pub returns-clause-next : goal.returns-clause-next
+returns-clause-next c =
     let core = c.args.core.now in
     let legal : IsLegalSoFar core.guest core.past = subst (IsLegalSoFar core.guest) c.history-history.ensures.past c.history-history.ensures.legal in
-    rw c.next_copy.ensures (next_is_within core.guest core.past (copies core.past) legal)
+    next_is core.guest core.past c.args.r c.next_copy.result legal c.requires c.next_copy.ensures
+
+pub returns-clause-end : goal.returns-clause-end
+returns-clause-end c none =
+    let core = c.args.core.now in
+    let legal : IsLegalSoFar core.guest core.past = subst (IsLegalSoFar core.guest) c.history-history.ensures.past c.history-history.ensures.legal in
+    none_next core.guest core.past legal (sym c.next_copy.ensures ∙ none)

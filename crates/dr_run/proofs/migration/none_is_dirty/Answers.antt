@@ -1,0 +1,10 @@
+use Rattle.std.proofs.Common.{subst}
+use Rattle.dr_history.specs.Legality.{IsLegalSoFar}
+use Rattle.dr_run.proofs.Rounding.{clean}
+use Rattle.dr_run.proofs.migration.none_is_dirty.Goals as goal
+
+pub returns : goal.returns
+returns c =
+    let core = c.args.core.now in
+    let legal : IsLegalSoFar core.guest core.past = subst (IsLegalSoFar core.guest) c.history-history.ensures.past c.history-history.ensures.legal in
+    clean core.guest core.past c.args.r legal c.requires.copying c.requires.copied
