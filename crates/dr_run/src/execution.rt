@@ -1,4 +1,4 @@
-ghost use Rattle.std.specs.Prelude.{◌≡◌, ◌≤◌, ◌<◌, ◌+◌, true, None, OnOk, OnErr, IfErr, IfSome};
+ghost use Rattle.std.specs.Prelude.{◌≡◌, ◌≤◌, ◌<◌, ◌+◌, true, None, OnOk, OnErr, IfErr, IfSome, is_some};
 ghost use Rattle.dr_types.specs.Pages.{page_of_frame};
 ghost use Rattle.dr_types.specs.Scripts.{vcpu_count};
 ghost use Rattle.dr_types.specs.Validity.{IsValid};
@@ -30,9 +30,9 @@ fn ops_done(core: &Core, v: u32) -> u32
 
 /// The page of a frame that an op fills.
 #[tactic(auto, using(crate::proofs::Limits::few_pages))]
-fn filled_page(guest: &Guest, gfn: u64, byte: u8) -> u32
+fn filled_page(guest: &Guest, gfn: u64) -> u32
     requires valid { IsValid guest.now }
-    requires fits { IsOpOrHalt guest.now.slots (Op.F gfn byte) }
+    requires mapped { is_some (page_of_frame guest.now.slots gfn) ≡ true }
     ensures { result ≡ page_or_zero (page_of_frame guest.now.slots gfn) }
 {
     match page_of_frame(guest, gfn) {
@@ -69,7 +69,7 @@ fn event_of(core: &Core, v: u32, op: Op) -> Event
         Op::F { gfn, byte } => Event::Paint {
             v,
             i,
-            page: filled_page(core.guest(), gfn, byte),
+            page: filled_page(core.guest(), gfn),
             byte,
         },
         Op::R { addr } => Event::Read {

@@ -1,5 +1,5 @@
 //! The run of a guest whose vCPUs halt before logging starts: from the first op to the switch-over,
-//! over the judge of events, with the stream's records put as they arise.
+//! each event legal by proof, with the stream's records put as they arise.
 #![tactic(auto)]
 
 mod built;
