@@ -2,3 +2,4 @@ pub mod Images
 pub mod Tops
 pub mod Reading
 pub mod Cuts
+pub mod Options

@@ -1,11 +1,11 @@
-ghost use Rattle.std.specs.Prelude.{◌≡◌, ◌↔◌, true, Some, IsSome, IfSome, OnOk, OnErr, IfErr, map, string_bytes};
+ghost use Rattle.std.specs.Prelude.{◌≡◌, ◌↔◌, true, false, Some, IsSome, IfSome, OnOk, OnErr, IfErr, map, string_bytes};
 ghost use Rattle.dr_types.specs.Ports.{Rose};
 ghost use Rattle.dr_types.specs.Validity.{IsValid};
 ghost use Rattle.dr_run.specs.Going.{IsFault};
 ghost use Rattle.dr_run.specs.Built.{is_built_for};
 ghost use Rattle.dirtyring_cli.specs.Input.{IfTold, IsRunnable, Takes};
 ghost use Rattle.dirtyring_cli.specs.Top.{EndsRun, IsCutOff, IsMigrated, Says, SomeMigrated, status_of_end};
-ghost use Rattle.dirtyring_cli.specs.Words.{IsStep};
+ghost use Rattle.dirtyring_cli.specs.Words.{is_step};
 
 use crate::ending::put_rest;
 use crate::input::read_input;
@@ -83,13 +83,13 @@ pub fn plain_main<S: Source, O: Outlet, C: Clock>(
 ) -> PlainEnd<O>
     ensures some { IsSome result.status }
     ensures words { (result.status ≡ Some Status.Words)
-        ↔ (IsStep (map string_bytes words.now) → ⊥) }
+        ↔ (is_step (map string_bytes words.now) ≡ false) }
     ensures says { IfSome result.status (λ s.
         Says (C.reads clock.now) s (S.left src.old) (O.told out) (O.told result.out)) }
     ensures takes { IfSome result.status (λ s. Takes s (S.left src.old) (S.left src.new)) }
     ensures untold { result.status ≡ Some Status.Done
         → SomeMigrated (C.reads clock.now) (O.told out) (O.told result.out) }
-    ensures ends { IsStep (map string_bytes words.now) → IfTold (S.left src.old) (λ bytes.
+    ensures ends { is_step (map string_bytes words.now) ≡ true → IfTold (S.left src.old) (λ bytes.
         IsRunnable bytes → IfSome result.status EndsRun) }
     ensures outlet { result.status ≡ Some Status.Outlet
         → Rose (O.faults out) (O.faults result.out) }
