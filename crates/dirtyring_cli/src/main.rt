@@ -7,6 +7,7 @@ mod input;
 mod journal;
 mod plain;
 mod refusal;
+mod source;
 mod words;
 
 use crate::refusal::{exit_code, print_refusal};
