@@ -16,3 +16,10 @@ code_of (IllegalJournal event rule) = 7
 code_of (BadStream why) = 8
 code_of TooLong = 9
 code_of Unbuilt = 10
+
+-- where what waited behind the call can't be written, the code is that of a failed write, unless nothing
+-- was put
+abbrev pub code_unwritten : Status → ℕ
+code_unwritten Done = 4
+code_unwritten Memory = 4
+code_unwritten status = code_of status

@@ -10,12 +10,17 @@ mod refusal;
 mod source;
 mod words;
 
-use crate::refusal::{exit_code, print_refusal};
-use dr_io::{FixedClock, PortFiles, ReadSource};
+use crate::refusal::{Refusal, last_code, print_refusal};
+use crate::source::{InputFile, KeptSource};
+use crate::words::{Paths, read_words};
+use dr_files::{FilePorts, PathOpener, PortPaths};
+use dr_io::{FixedClock, ReadSource};
 use dr_types::Status;
 pub use plain::{PlainEnd, plain_main};
+use std::alloc::AllocError;
 use std::process::ExitCode;
-use std::{env, io};
+use std::rt::Files;
+use std::{env, fs, io};
 
 #[cfg(test)]
 mod tests;
@@ -29,14 +34,51 @@ fn command_words(rt: &HostRuntime) -> Result<Vec<String>, io::Error> {
     Ok(words)
 }
 
+/// The path that stands at a place among the words.
+fn path_at(words: &[String], place: Option<usize>) -> Result<Option<String>, AllocError> {
+    match place.and_then(|at| words.get(at)) {
+        Some(path) => Ok(Some(path.clone()?)),
+        None => Ok(None),
+    }
+}
+
+/// The paths of the ports that go to files.
+fn port_paths(words: &[String], paths: Paths) -> Result<PortPaths, AllocError> {
+    Ok(PortPaths {
+        stream: path_at(words, paths.stream)?,
+        image: path_at(words, paths.image)?,
+        journal: path_at(words, paths.journal)?,
+    })
+}
+
+/// The file at a path, or standard input where there is none.
+fn open_input<R: Files + Input>(rt: &R, path: Option<&String>) -> InputFile<R::Reader, R::File> {
+    match path {
+        None => InputFile::Standard(rt.reader()),
+        Some(path) => match fs::open(rt, path.as_str()) {
+            Ok(file) => InputFile::Named(file),
+            Err(_) => InputFile::Unopened,
+        },
+    }
+}
+
 fn main(rt: HostRuntime) -> Result<ExitCode, io::Error> {
     let alloc = rt.alloc();
     let words = command_words(&rt)?;
-    let mut source = ReadSource::new(rt.reader());
-    let out = PortFiles::new(Some(io::writer(&rt)), None, None, None);
+    let paths = read_words(words.as_slice()).unwrap_or(Paths::none());
+    let input = path_at(words.as_slice(), paths.input)?;
+    let mut source = KeptSource::new(alloc, ReadSource::new(open_input(&rt, input.as_ref())));
+    let opener = PathOpener::new(&rt, port_paths(words.as_slice(), paths)?);
+    let out = FilePorts::new(alloc, io::writer(&rt), opener);
     let clock = FixedClock { now: 0 };
-    let PlainEnd { status, .. } = plain_main(alloc, words.as_slice(), &mut source, out, &clock);
-    let status = status.unwrap_or(Status::Words);
-    print_refusal(&rt, status)?;
-    Ok(ExitCode::from(exit_code(status)))
+    let PlainEnd { status, out } =
+        plain_main(alloc, words.as_slice(), &mut source, out, &clock);
+    let refusal = Refusal {
+        status: status.unwrap_or(Status::Words),
+        input: input.as_ref().map_or("standard input", |path| path.as_str()),
+        file: source.kept(),
+    };
+    print_refusal(&rt, &refusal)?;
+    let status = refusal.status;
+    Ok(ExitCode::from(last_code(status, out.finish())))
 }

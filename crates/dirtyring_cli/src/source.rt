@@ -3,28 +3,27 @@ ghost use Rattle.std.specs.Prelude.{◌≡◌};
 use dr_io::{ReadTurn, Source};
 use dr_types::{Bytes, Listed};
 use std::alloc::Global;
-use std::fs::File;
 use std::io;
 use std::io::{ErrorKind, Read};
 use std::marker::Model;
 
 /// Where a guest file comes from.
 #[derive(Drop)]
-pub enum Input<R: Read + Drop> {
+pub enum InputFile<R: Read + Drop, F: Read + Drop> {
     /// Standard input.
     Standard(R),
     /// A file that was opened by its path.
-    Named(File),
+    Named(F),
     /// A file that can't be opened: each read of it fails.
     Unopened,
 }
 
-impl<R: Read + Drop> Read for Input<R> {
+impl<R: Read + Drop, F: Read + Drop> Read for InputFile<R, F> {
     fn read(&mut self, buf: &mut [u8]) -> io::Result<usize> {
         match self {
-            Input::Standard(reader) => reader.read(buf),
-            Input::Named(file) => file.read(buf),
-            Input::Unopened => Err(io::Error::from(ErrorKind::Other)),
+            InputFile::Standard(reader) => reader.read(buf),
+            InputFile::Named(file) => file.read(buf),
+            InputFile::Unopened => Err(io::Error::from(ErrorKind::Other)),
         }
     }
 }

@@ -11,6 +11,20 @@ pub struct Paths {
     pub journal: Option<usize>,
 }
 
+impl Paths {
+    /// No path is said.
+    pub fn none() -> Paths
+        ensures { result ≡ no_paths }
+    {
+        Paths {
+            input: None,
+            stream: None,
+            image: None,
+            journal: None,
+        }
+    }
+}
+
 /// A path's place, where none was said before.
 fn said_once(said: Option<usize>, at: usize) -> Option<Option<usize>>
     ensures { result ≡ said_once said at }
@@ -58,12 +72,7 @@ fn with_option(paths: Paths, name: &str, path: &str, at: usize) -> Option<Paths>
 pub fn read_words(words: &[String]) -> Option<Paths>
     ensures { result ≡ step_of (map string_bytes words.now) }
 {
-    let mut paths = Paths {
-        input: None,
-        stream: None,
-        image: None,
-        journal: None,
-    };
+    let mut paths = Paths::none();
     if words.is_empty() || words[0].as_str() != "step" {
         return None;
     }
