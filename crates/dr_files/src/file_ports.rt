@@ -1,0 +1,104 @@
+ghost use Rattle.std.specs.Prelude.{◌≡◌, ℕ};
+ghost use Rattle.dr_types.specs.Ports.{silent};
+
+use crate::opener::Opener;
+use crate::pieces::Pieces;
+use crate::port_end::PortEnd;
+use crate::port_ends::PortEnds;
+use dr_io::{Outlet, Port, PutTurn};
+use std::alloc::Global;
+use std::io::Write;
+use std::marker::Model;
+
+/// A report and up to three named files as the ports of an outlet. It tells of no port.
+///
+/// All files are created at the first put on any port. Bytes of the stream and of the image wait
+/// for one another; a put that another port takes writes them first. A port that failed once, at
+/// its creation, at a write or at a flush, fails from then on. Contracts see the count of faults.
+#[derive(Drop)]
+pub struct FilePorts<W: Write + Drop, O: Opener> {
+    ends: PortEnds<W, O::Writer>,
+    opener: O,
+    alloc: Global,
+    is_opened: bool,
+    faults: u64,
+}
+
+impl<W: Write + Drop, O: Opener> Model for FilePorts<W, O> {
+    ghost use Rattle.std.specs.Prelude.{ℕ};
+
+    ghost Value = { ℕ };
+
+    ghost view = { λ p. p.faults };
+}
+
+impl<W: Write + Drop, O: Opener> FilePorts<W, O> {
+    /// The outlet with this report, and with the files that the opener will create.
+    pub fn new(alloc: Global, report: W, opener: O) -> FilePorts<W, O>
+        ensures { result ≡ 0 }
+    {
+        FilePorts {
+            ends: PortEnds {
+                report: PortEnd::Open(Pieces::straight(alloc, report)),
+                stream: PortEnd::Discarded,
+                image: PortEnd::Discarded,
+                journal: PortEnd::Discarded,
+            },
+            opener,
+            alloc,
+            is_opened: false,
+            faults: 0,
+        }
+    }
+
+    /// Writes what waits, flushes each port, and says whether that went well. Ports that failed
+    /// before have nothing left.
+    pub fn finish(mut self) -> bool {
+        self.ends.flush()
+    }
+
+    fn open_once(&mut self)
+        ensures { self.new ≡ self.old }
+    {
+        if self.is_opened {
+            return;
+        }
+        self.is_opened = true;
+        self.ends.stream = self.opened(Port::Stream);
+        self.ends.image = self.opened(Port::Image);
+        self.ends.journal = self.opened(Port::Journal);
+    }
+
+    fn opened(&mut self, port: Port) -> PortEnd<O::Writer>
+        ensures { self.new ≡ self.old }
+    {
+        match self.opener.open(port) {
+            None => PortEnd::Discarded,
+            Some(Err(_)) => PortEnd::Broken,
+            Some(Ok(writer)) => PortEnd::Open(self.pieces(port, writer)),
+        }
+    }
+
+    fn pieces(&self, port: Port, writer: O::Writer) -> Pieces<O::Writer> {
+        match port {
+            Port::Stream | Port::Image => Pieces::large(self.alloc, writer),
+            Port::Report | Port::Journal => Pieces::straight(self.alloc, writer),
+        }
+    }
+}
+
+#[tactic(auto, using(dr_io::proofs::Silence::silent_put))]
+impl<W: Write + Drop, O: Opener> Outlet for FilePorts<W, O> {
+    ghost told = { λ p. silent };
+
+    ghost faults = { λ p. p };
+
+    fn put(&mut self, port: Port, bytes: &[u8]) -> PutTurn {
+        self.open_once();
+        if self.ends.put(port, bytes) {
+            return PutTurn::Done;
+        }
+        self.faults = self.faults.saturating_add(1);
+        PutTurn::Failed
+    }
+}

@@ -1,0 +1,439 @@
+use crate::{FilePorts, Opener, PathOpener, PortPaths};
+use Plan::{Refused, Takes, Unnamed};
+use dr_io::{Outlet, Port, PortBook, PutTurn};
+use dr_types::{Bytes, Listed};
+use std::alloc::Global;
+use std::cell::RefCell;
+use std::io::{ErrorKind, Write};
+use std::rc::Rc;
+use std::test::Fail;
+use std::{fs, io};
+
+/// What the fakes were given: the bytes of each port, and a letter of the port for each write and
+/// for each file that was opened, in their order.
+#[derive(Drop)]
+struct Record {
+    book: PortBook,
+    writes: Bytes,
+    opened: Bytes,
+}
+
+type Shared = Rc<RefCell<Record>>;
+
+fn new_record(alloc: Global) -> Result<Shared, Fail> {
+    let record = Record {
+        book: PortBook::new(alloc, Listed::new(alloc)),
+        writes: Listed::new(alloc),
+        opened: Listed::new(alloc),
+    };
+    Ok(Rc::new(alloc, RefCell::new(record))?)
+}
+
+fn letter(port: Port) -> u8 {
+    match port {
+        Port::Report => b'r',
+        Port::Stream => b's',
+        Port::Image => b'i',
+        Port::Journal => b'j',
+    }
+}
+
+fn broken() -> io::Error {
+    io::Error::from(ErrorKind::BrokenPipe)
+}
+
+/// The letters of all writes so far are these.
+fn has_written(record: &Shared, letters: &str) -> bool {
+    match record.try_borrow() {
+        Ok(record) => record.writes.as_slice() == letters.as_bytes(),
+        Err(_) => false,
+    }
+}
+
+/// The letters of all files that were opened so far are these.
+fn has_opened(record: &Shared, letters: &str) -> bool {
+    match record.try_borrow() {
+        Ok(record) => record.opened.as_slice() == letters.as_bytes(),
+        Err(_) => false,
+    }
+}
+
+/// A port was given these bytes.
+fn has_bytes(record: &Shared, port: Port, bytes: &[u8]) -> bool {
+    match record.try_borrow() {
+        Ok(record) => record.book.bytes(port) == bytes,
+        Err(_) => false,
+    }
+}
+
+/// What becomes of a port that a fake is to open.
+#[derive(Clone, Copy, Debug, PartialEq, Eq)]
+enum Plan {
+    Unnamed,
+    Refused,
+    /// Takes at most `piece` bytes a write, and fails past so many writes.
+    Takes { piece: usize, writes: u32 },
+}
+
+const WHOLE: Plan = Takes {
+    piece: 1_000_000,
+    writes: 1_000,
+};
+
+/// Its writes and its flushes fail.
+const FAILS: Plan = Takes {
+    piece: 1_000_000,
+    writes: 0,
+};
+
+#[derive(Drop)]
+struct FakeFile {
+    record: Shared,
+    port: Port,
+    piece: usize,
+    writes: u32,
+}
+
+impl Write for FakeFile {
+    fn write(&mut self, buf: &[u8]) -> io::Result<usize> {
+        if self.writes == 0 {
+            return Err(broken());
+        }
+        self.writes -= 1;
+        let n = buf.len().min(self.piece);
+        let Ok(mut record) = self.record.try_borrow_mut() else {
+            return Err(broken());
+        };
+        if record.writes.push(letter(self.port)).is_err() {
+            return Err(broken());
+        }
+        match record.book.put(self.port, &buf[..n]) {
+            PutTurn::Done => Ok(n),
+            PutTurn::Failed => Err(broken()),
+        }
+    }
+
+    fn flush(&mut self) -> io::Result<()> {
+        if self.writes == 0 {
+            return Err(broken());
+        }
+        Ok(())
+    }
+}
+
+/// A file by a plan that takes bytes.
+fn fake_file(record: &Shared, port: Port, plan: Plan) -> io::Result<FakeFile> {
+    let Takes { piece, writes } = plan else {
+        return Err(broken());
+    };
+    let Ok(mut kept) = record.try_borrow_mut() else {
+        return Err(broken());
+    };
+    if kept.opened.push(letter(port)).is_err() {
+        return Err(broken());
+    }
+    Ok(FakeFile {
+        record: record.clone()?,
+        port,
+        piece,
+        writes,
+    })
+}
+
+#[derive(Drop)]
+struct FakeOpener {
+    record: Shared,
+    stream: Plan,
+    image: Plan,
+    journal: Plan,
+}
+
+impl FakeOpener {
+    fn plan(&self, port: Port) -> Plan {
+        match port {
+            Port::Report => Unnamed,
+            Port::Stream => self.stream,
+            Port::Image => self.image,
+            Port::Journal => self.journal,
+        }
+    }
+}
+
+impl Opener for FakeOpener {
+    type Writer = FakeFile;
+
+    fn open(&mut self, port: Port) -> Option<io::Result<FakeFile>> {
+        match self.plan(port) {
+            Unnamed => None,
+            plan => Some(fake_file(&self.record, port, plan)),
+        }
+    }
+}
+
+/// Fakes as ports, with the record of what they are given.
+#[derive(Drop)]
+struct Faked {
+    record: Shared,
+    ports: FilePorts<FakeFile, FakeOpener>,
+}
+
+/// A report that takes all, and ports by these plans.
+fn make_faked(alloc: Global, stream: Plan, image: Plan, journal: Plan) -> Result<Faked, Fail> {
+    let record = new_record(alloc)?;
+    let report = FakeFile {
+        record: record.clone()?,
+        port: Port::Report,
+        piece: 1_000_000,
+        writes: 1_000,
+    };
+    let opener = FakeOpener {
+        record: record.clone()?,
+        stream,
+        image,
+        journal,
+    };
+    Ok(Faked {
+        record,
+        ports: FilePorts::new(alloc, report, opener),
+    })
+}
+
+/// How a put of these bytes ended.
+fn put_on<O: Outlet>(out: &mut O, port: Port, bytes: &str) -> PutTurn {
+    out.put(port, bytes.as_bytes())
+}
+
+#[test]
+fn all_files_are_opened_at_the_first_put(rt: HostRuntime) -> Result<(), Fail> {
+    for port in [Port::Report, Port::Stream, Port::Image, Port::Journal] {
+        let Faked { record, mut ports } = make_faked(rt.alloc(), WHOLE, WHOLE, WHOLE)?;
+        assert!(rt; has_opened(&record, ""));
+        assert_eq!(rt; put_on(&mut ports, port, ""), PutTurn::Done);
+        assert!(rt; has_opened(&record, "sij"));
+        assert_eq!(rt; put_on(&mut ports, port, ""), PutTurn::Done);
+        assert!(rt; has_opened(&record, "sij"));
+    }
+    Ok(())
+}
+
+#[test]
+fn nothing_is_opened_without_a_put(rt: HostRuntime) -> Result<(), Fail> {
+    let Faked { record, ports } = make_faked(rt.alloc(), WHOLE, WHOLE, WHOLE)?;
+    assert!(rt; ports.finish());
+    assert!(rt; has_opened(&record, ""));
+    Ok(())
+}
+
+#[test]
+fn a_file_that_cannot_be_opened_fails_its_own_puts(rt: HostRuntime) -> Result<(), Fail> {
+    let Faked { record, mut ports } = make_faked(rt.alloc(), WHOLE, Refused, WHOLE)?;
+    for (port, expected) in [
+        (Port::Report, PutTurn::Done),
+        (Port::Stream, PutTurn::Done),
+        (Port::Image, PutTurn::Failed),
+        (Port::Journal, PutTurn::Done),
+        (Port::Image, PutTurn::Failed),
+        (Port::Stream, PutTurn::Done),
+    ] {
+        assert_eq!(rt; put_on(&mut ports, port, "a"), expected);
+    }
+    assert!(rt; ports.finish());
+    assert!(rt; has_opened(&record, "sj"));
+    assert!(rt; has_written(&record, "rsjs"));
+    Ok(())
+}
+
+#[test]
+fn a_port_without_a_name_takes_all(rt: HostRuntime) -> Result<(), Fail> {
+    let Faked { record, mut ports } = make_faked(rt.alloc(), WHOLE, Unnamed, Unnamed)?;
+    for port in [Port::Stream, Port::Image, Port::Journal, Port::Stream] {
+        assert_eq!(rt; put_on(&mut ports, port, "ab"), PutTurn::Done);
+        assert!(rt; has_written(&record, ""));
+    }
+    assert!(rt; ports.finish());
+    assert!(rt; has_written(&record, "s"));
+    Ok(())
+}
+
+/// Puts of these sizes, each of a byte of its own, and what all of them are.
+fn put_sizes<O: Outlet>(alloc: Global, out: &mut O) -> Result<Bytes, Fail> {
+    let mut all = Listed::new(alloc);
+    for (byte, size) in [
+        (1, 3),
+        (2, 65_533),
+        (3, 1),
+        (4, 65_536),
+        (5, 0),
+        (6, 65_537),
+        (7, 65_535),
+        (8, 2),
+    ] {
+        let bytes = vec![in alloc; byte; size]?;
+        if out.put(Port::Stream, bytes.as_slice()) == PutTurn::Done {
+            all.append(bytes.as_slice())?;
+        }
+    }
+    Ok(all)
+}
+
+#[test]
+fn bytes_come_whole_and_in_large_pieces(rt: HostRuntime) -> Result<(), Fail> {
+    let Faked { record, mut ports } = make_faked(rt.alloc(), WHOLE, WHOLE, WHOLE)?;
+    let all = put_sizes(rt.alloc(), &mut ports)?;
+    assert!(rt; ports.finish());
+    assert_eq!(rt; all.len(), 262_147);
+    assert!(rt; has_bytes(&record, Port::Stream, all.as_slice()));
+    assert!(rt; has_written(&record, "ssssss"));
+    Ok(())
+}
+
+#[test]
+fn bytes_come_whole_to_a_file_that_takes_few(rt: HostRuntime) -> Result<(), Fail> {
+    let few = Takes {
+        piece: 1_000,
+        writes: 1_000,
+    };
+    let Faked { record, mut ports } = make_faked(rt.alloc(), few, WHOLE, WHOLE)?;
+    let all = put_sizes(rt.alloc(), &mut ports)?;
+    assert!(rt; ports.finish());
+    assert_eq!(rt; all.len(), 262_147);
+    assert!(rt; has_bytes(&record, Port::Stream, all.as_slice()));
+    Ok(())
+}
+
+#[test]
+fn a_put_on_another_port_writes_what_waits(rt: HostRuntime) -> Result<(), Fail> {
+    let Faked { record, mut ports } = make_faked(rt.alloc(), WHOLE, WHOLE, WHOLE)?;
+    for (port, expected) in [
+        (Port::Stream, ""),
+        (Port::Stream, ""),
+        (Port::Journal, "sj"),
+        (Port::Journal, "sjj"),
+        (Port::Image, "sjj"),
+        (Port::Image, "sjj"),
+        (Port::Stream, "sjji"),
+        (Port::Report, "sjjisr"),
+        (Port::Image, "sjjisr"),
+        (Port::Report, "sjjisrir"),
+    ] {
+        assert_eq!(rt; put_on(&mut ports, port, "ab"), PutTurn::Done);
+        assert!(rt; has_written(&record, expected), "{expected}");
+    }
+    Ok(())
+}
+
+#[test]
+fn a_failed_flush_fails_that_put(rt: HostRuntime) -> Result<(), Fail> {
+    let Faked { record, mut ports } = make_faked(rt.alloc(), FAILS, WHOLE, WHOLE)?;
+    for (port, expected) in [
+        (Port::Stream, PutTurn::Done),
+        (Port::Stream, PutTurn::Done),
+        (Port::Journal, PutTurn::Failed),
+        (Port::Journal, PutTurn::Done),
+        (Port::Stream, PutTurn::Failed),
+        (Port::Image, PutTurn::Done),
+        (Port::Report, PutTurn::Done),
+        (Port::Stream, PutTurn::Failed),
+    ] {
+        assert_eq!(rt; put_on(&mut ports, port, "a"), expected);
+    }
+    assert!(rt; ports.finish());
+    assert!(rt; has_written(&record, "jir"));
+    Ok(())
+}
+
+/// A file that fails past so many writes, and takes two bytes a write.
+fn pairs(writes: u32) -> Plan {
+    Takes { piece: 2, writes }
+}
+
+#[test]
+fn a_write_fails_in_mid_stream(rt: HostRuntime) -> Result<(), Fail> {
+    for (writes, first, second, taken) in [
+        (0, PutTurn::Failed, PutTurn::Failed, ""),
+        (1, PutTurn::Failed, PutTurn::Failed, "ab"),
+        (2, PutTurn::Done, PutTurn::Failed, "abcd"),
+        (3, PutTurn::Done, PutTurn::Failed, "abcdef"),
+        (4, PutTurn::Done, PutTurn::Done, "abcdefgh"),
+    ] {
+        let Faked { record, mut ports } = make_faked(rt.alloc(), Unnamed, Unnamed, pairs(writes))?;
+        assert_eq!(rt; put_on(&mut ports, Port::Journal, "abcd"), first);
+        assert_eq!(rt; put_on(&mut ports, Port::Journal, "efgh"), second);
+        assert!(rt; has_bytes(&record, Port::Journal, taken.as_bytes()));
+    }
+    Ok(())
+}
+
+#[test]
+fn finish_tells_of_what_could_not_be_written(rt: HostRuntime) -> Result<(), Fail> {
+    for (port, plan, expected) in [
+        (Port::Stream, WHOLE, true),
+        (Port::Stream, FAILS, false),
+        (Port::Stream, pairs(1), false),
+        (Port::Stream, pairs(2), false),
+        (Port::Stream, pairs(3), true),
+        (Port::Image, WHOLE, true),
+        (Port::Image, FAILS, false),
+    ] {
+        let Faked {
+            record: _,
+            mut ports,
+        } = make_faked(rt.alloc(), plan, plan, Unnamed)?;
+        assert_eq!(rt; put_on(&mut ports, port, "abcd"), PutTurn::Done);
+        assert_eq!(rt; ports.finish(), expected, "{port:?} {plan:?}");
+    }
+    Ok(())
+}
+
+const FOLDER: &str = "dr_files_test";
+
+const STREAM: &str = "dr_files_test/stream";
+
+const JOURNAL: &str = "dr_files_test/journal";
+
+/// Paths of which the image's lies in a folder that isn't there.
+fn test_paths(alloc: Global) -> Result<PortPaths, Fail> {
+    Ok(PortPaths {
+        stream: Some(String::from_str(alloc, STREAM)?),
+        image: Some(String::from_str(alloc, "dr_files_test/absent/image")?),
+        journal: Some(String::from_str(alloc, JOURNAL)?),
+    })
+}
+
+/// The file at the path has this text.
+fn has_text(rt: &HostRuntime, path: &str, text: &str) -> bool {
+    match fs::read_to_string(rt, path) {
+        Ok(found) => found.as_str() == text,
+        Err(_) => false,
+    }
+}
+
+/// A folder with an earlier stream.
+fn make_folder(rt: &HostRuntime) -> io::Result<()> {
+    let _ = fs::remove_dir_all(rt, FOLDER);
+    fs::create_dir(rt, FOLDER)?;
+    fs::write(rt, STREAM, "earlier")
+}
+
+#[test]
+fn bytes_reach_real_files(rt: HostRuntime) -> Result<(), Fail> {
+    make_folder(&rt)?;
+    let opener = PathOpener::new(&rt, test_paths(rt.alloc())?);
+    let mut ports = FilePorts::new(rt.alloc(), io::sink(), opener);
+    assert!(rt; has_text(&rt, STREAM, "earlier"));
+    assert_eq!(rt; put_on(&mut ports, Port::Report, "report"), PutTurn::Done);
+    assert!(rt; has_text(&rt, STREAM, ""));
+    for (port, bytes, expected) in [
+        (Port::Stream, "some ", PutTurn::Done),
+        (Port::Image, "image", PutTurn::Failed),
+        (Port::Journal, "journal", PutTurn::Done),
+        (Port::Stream, "more", PutTurn::Done),
+    ] {
+        assert_eq!(rt; put_on(&mut ports, port, bytes), expected);
+    }
+    assert!(rt; ports.finish());
+    assert!(rt; has_text(&rt, STREAM, "some more"));
+    assert!(rt; has_text(&rt, JOURNAL, "journal"));
+    assert!(rt; fs::remove_dir_all(&rt, FOLDER).is_ok());
+    Ok(())
+}
