@@ -4,3 +4,4 @@ pub mod SlotLines
 pub mod OpLines
 pub mod ScriptLines
 pub mod GuestTexts
+pub mod FaultLines

@@ -49,7 +49,7 @@ fn setting_line(
 }
 
 /// A power of two in the range of a ring's sizes.
-fn is_ring_size(size: u64) -> bool
+pub fn is_ring_size(size: u64) -> bool
     ensures { result ≡ ring_size size }
 {
     u64::from(LEAST_RING) <= size && size <= u64::from(GREATEST_RING) && size.is_power_of_two()

@@ -12,7 +12,7 @@ use dr_types::{FileFault, SlotList, SlotRow, What};
 use std::alloc::Global;
 
 /// The frame after the last that a slot may have.
-const FRAMES_END: u64 = 1 << 52;
+pub const FRAMES_END: u64 = 1 << 52;
 
 /// `slot ID BASE PAGES`
 #[tactic(auto, unfolding(crate::specs::SlotLines::slot_of))]

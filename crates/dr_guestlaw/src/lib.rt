@@ -6,6 +6,8 @@ mod law;
 pub use law::written_is_read;
 
 #[cfg(test)]
+mod explained;
+#[cfg(test)]
 mod limit_rows;
 #[cfg(test)]
 mod op_rows;
