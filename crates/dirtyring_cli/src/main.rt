@@ -71,14 +71,16 @@ fn main(rt: HostRuntime) -> Result<ExitCode, io::Error> {
     let opener = PathOpener::new(&rt, port_paths(words.as_slice(), paths)?);
     let out = FilePorts::new(alloc, io::writer(&rt), opener);
     let clock = FixedClock { now: 0 };
-    let PlainEnd { status, out } =
-        plain_main(alloc, words.as_slice(), &mut source, out, &clock);
+    let PlainEnd { status, out } = plain_main(alloc, words.as_slice(), &mut source, out, &clock);
+    let is_written = out.finish();
     let refusal = Refusal {
         status: status.unwrap_or(Status::Words),
-        input: input.as_ref().map_or("standard input", |path| path.as_str()),
+        input: input
+            .as_ref()
+            .map_or("standard input", |path| path.as_str()),
         file: source.kept(),
     };
-    print_refusal(&rt, &refusal)?;
-    let status = refusal.status;
-    Ok(ExitCode::from(last_code(status, out.finish())))
+    // Where standard error is closed, the exit code alone says it.
+    print_refusal(&rt, &refusal).unwrap_or(());
+    Ok(ExitCode::from(last_code(refusal.status, is_written)))
 }

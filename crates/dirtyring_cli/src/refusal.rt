@@ -72,10 +72,12 @@ fn print_fault(
         None => Err(Memory),
     };
     match explained {
-        Ok(Explained {
-            line: Some(line),
-            text,
-        }) => eprintln!(rt; "{input}:{line}: {}", text.as_str()),
+        Ok(
+            Explained {
+                line: Some(line),
+                text,
+            },
+        ) => eprintln!(rt; "{input}:{line}: {}", text.as_str()),
         Ok(Explained { line: None, text }) => eprintln!(rt; "{input}: {}", text.as_str()),
         Err(_) => eprintln!(rt; "{input}: {why}"),
     }

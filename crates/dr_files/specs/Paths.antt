@@ -1,5 +1,5 @@
 -- Which file a port goes to.
-use Rattle.std.specs.Prelude.{Option, None, option_map, String}
+use Rattle.std.specs.Prelude.{Option, None, String}
 use Rattle.std.specs.declared.alloc.Global.{Global}
 use Rattle.dr_types.specs.declared.port.Port.{Port}
 use Rattle.dr_types.specs.declared.port.Port.TheVariants.{Report, Stream, Image, Journal}

@@ -12,9 +12,10 @@ use std::marker::Model;
 
 /// A report and up to three named files as the ports of an outlet. It tells of no port.
 ///
-/// All files are created at the first put on any port. Bytes of the stream and of the image wait
-/// for one another; a put that another port takes writes them first. A port that failed once, at
-/// its creation, at a write or at a flush, fails from then on. Contracts see the count of faults.
+/// All files are created at the first put on any port, and none before. Bytes of the stream and of
+/// the image wait in a buffer of 64 KiB each, and are written before a put on another port that has
+/// a writer. A port that failed once, at its creation, at a write or at a flush, fails from then
+/// on. Contracts see the count of faults.
 #[derive(Drop)]
 pub struct FilePorts<W: Write + Drop, O: Opener> {
     ends: PortEnds<W, O::Writer>,
@@ -51,8 +52,8 @@ impl<W: Write + Drop, O: Opener> FilePorts<W, O> {
         }
     }
 
-    /// Writes what waits, flushes each port, and says whether that went well. Ports that failed
-    /// before have nothing left.
+    /// Writes what waits, flushes each port, and says whether that went well. A port that failed
+    /// before has nothing left, and its puts have said so.
     pub fn finish(mut self) -> bool {
         self.ends.flush()
     }

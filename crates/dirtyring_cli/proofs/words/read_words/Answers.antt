@@ -15,9 +15,9 @@ returns-in_err-paths c =
     let name = c.index-words-at.result in
     let path = c.index-words-at-in-loop-at.result in
     let says : with_option c.loop-at.paths (string_bytes name) (string_bytes path) (at + 1) ≡ None =
-        ap (λ (n : List ℕ). with_option c.loop-at.paths n (string_bytes path) (at + 1)) (sym c.as_str-in-loop-at.ensures.value)
-        ∙ ap (λ (p : List ℕ). with_option c.loop-at.paths c.as_str-in-loop-at.result.now p (at + 1)) (sym c.as_str-in-loop-at-2.ensures.value)
-        ∙ sym c.with_option.ensures ∙ c.in_err-paths.was in
+    ap (λ (n : List ℕ). with_option c.loop-at.paths n (string_bytes path) (at + 1)) (sym c.as_str-in-loop-at.ensures.value)
+    ∙ ap (λ (p : List ℕ). with_option c.loop-at.paths c.as_str-in-loop-at.result.now p (at + 1)) (sym c.as_str-in-loop-at-2.ensures.value)
+    ∙ sym c.with_option.ensures ∙ c.in_err-paths.was in
     c.from_residual.ensures
     ∙ sym (c.loop-at.invariant ∙ whole_option string_bytes c.args.words.now at name path c.loop-at.paths lt c.index-words-at.is c.index-words-at-in-loop-at.is
     ∙ ap (λ (said : Option Paths). paths_from (drop (at + 2) words) (at + 2) said) says ∙ none_from (drop (at + 2) words) (at + 2))
@@ -30,8 +30,8 @@ loop-at-preserved c =
     let name = c.index-words-at.result in
     let path = c.index-words-at-in-loop-at.result in
     let says : with_option c.loop-at.paths (string_bytes name) (string_bytes path) (at + 1) ≡ Some c.in_ok-paths.paths =
-        ap (λ (n : List ℕ). with_option c.loop-at.paths n (string_bytes path) (at + 1)) (sym c.as_str-in-loop-at.ensures.value)
-        ∙ ap (λ (p : List ℕ). with_option c.loop-at.paths c.as_str-in-loop-at.result.now p (at + 1)) (sym c.as_str-in-loop-at-2.ensures.value)
-        ∙ sym c.with_option.ensures ∙ c.in_ok-paths.was in
+    ap (λ (n : List ℕ). with_option c.loop-at.paths n (string_bytes path) (at + 1)) (sym c.as_str-in-loop-at.ensures.value)
+    ∙ ap (λ (p : List ℕ). with_option c.loop-at.paths c.as_str-in-loop-at.result.now p (at + 1)) (sym c.as_str-in-loop-at-2.ensures.value)
+    ∙ sym c.with_option.ensures ∙ c.in_ok-paths.was in
     c.loop-at.invariant ∙ whole_option string_bytes c.args.words.now at name path c.loop-at.paths lt c.index-words-at.is c.index-words-at-in-loop-at.is
     ∙ ap (λ (said : Option Paths). paths_from (drop (at + 2) words) (at + 2) said) says
