@@ -1,3 +1,5 @@
+//! What is said of each fault: its line, and the text behind it.
+
 use dr_guestfile::{Explained, explain, read_guest};
 use dr_types::{FileFault, What};
 use std::alloc::{AllocError, Global};

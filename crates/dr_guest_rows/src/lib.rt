@@ -1,0 +1,17 @@
+//! The grammar of a guest file as tables: texts that are read, and texts that are refused.
+#![tactic(auto)]
+
+#[cfg(test)]
+mod limit_rows;
+#[cfg(test)]
+mod op_rows;
+#[cfg(test)]
+mod rows;
+#[cfg(test)]
+mod section_rows;
+#[cfg(test)]
+mod settings_rows;
+#[cfg(test)]
+mod slot_rows;
+#[cfg(test)]
+mod text_rows;
