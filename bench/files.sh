@@ -1,6 +1,6 @@
 #!/usr/bin/env bash
-# Measures `step` into files on a guest of 16,384 painted pages against a plain program that writes the same
-# stream and image. Run it by hand on a quiet machine, once `rt run` or `rt ci` has built the program:
+# Measures `step` into files on two guests of 16,384 pages against a plain program that writes the same stream
+# and image. Run it by hand on a quiet machine, once `rt run` or `rt ci` has built the program:
 #   bench/files.sh [PROGRAM [FOLDER]]
 set -eu
 here="$(cd "$(dirname "$0")" && pwd)"
@@ -8,34 +8,50 @@ program="${1:-$here/../crates/dirtyring_cli/out/dirtyring_cli}"
 folder="$(mktemp -d "${2:-/tmp}/bench.XXXXXX")"
 trap 'rm -rf "$folder"' EXIT
 pages=16384
+cc -O2 -o "$folder/plain" "$here/plain.c"
+
+# Four vCPUs that count: the guest of examples/counters.guest over more pages.
+sed 's/^slot 0 0 4096$/slot 0 0 14336/' "$here/../examples/counters.guest" > "$folder/count.guest"
+# One vCPU whose script paints each page once, in 16,384 ops.
 {
     printf 'dirtyguest 1\nring 8\nreserve 2\nbuffer 0\npace 200000\nthreshold 0\nrounds 15\nquota 0\n'
     printf 'slot 0 0 %s\nvcpu\n' "$pages"
     for ((page = 0; page < pages; page++)); do printf 'f %s %02x\n' "$page" $((page % 256)); done
     printf 'halt\n'
-} > "$folder/painted.guest"
-cc -O2 -o "$folder/plain" "$here/plain.c"
+} > "$folder/paint.guest"
 
 step() {
-    "$program" step --in "$folder/painted.guest" --stream "$folder/step.stream" --image "$folder/step.image" \
-        --journal "$folder/step.journal" > "$folder/report"
+    "$program" step --in "$folder/$1.guest" --stream "$folder/step.stream" --image "$folder/step.image" \
+        > "$folder/report"
 }
 plain() {
-    "$folder/plain" "$pages" "$folder/plain.stream" "$folder/plain.image"
+    "$folder/plain" "$1" "$pages" "$folder/plain.stream" "$folder/plain.image"
 }
-# The best of seven runs, in milliseconds.
-best() {
-    local least=
-    for _ in 1 2 3 4 5 6 7; do
-        local from=$(date +%s%N)
-        "$1"
-        local took=$((($(date +%s%N) - from) / 1000))
-        if [ -z "$least" ] || [ "$took" -lt "$least" ]; then least=$took; fi
+# The microseconds that a command takes, into new files and with nothing left to write to the disk.
+took() {
+    rm -f "$folder"/*.stream "$folder"/*.image
+    sync
+    local from=$(date +%s%N)
+    "$@"
+    echo $((($(date +%s%N) - from) / 1000))
+}
+# The best of nine runs of each, one after the other in turn.
+compare() {
+    local best_step= best_plain= now
+    for _ in 1 2 3 4 5 6 7 8 9; do
+        now=$(took step "$1")
+        if [ -z "$best_step" ] || [ "$now" -lt "$best_step" ]; then best_step=$now; fi
+        now=$(took plain "$1")
+        if [ -z "$best_plain" ] || [ "$now" -lt "$best_plain" ]; then best_plain=$now; fi
     done
-    echo $((least / 1000)).$(printf '%03d' $((least % 1000)))
+    printf '%s: step %d.%03d ms, plain program %d.%03d ms: %d.%02d times\n' "$1" \
+        $((best_step / 1000)) $((best_step % 1000)) $((best_plain / 1000)) $((best_plain % 1000)) \
+        $((best_step / best_plain)) $((best_step * 100 / best_plain % 100))
+    step "$1"
+    plain "$1"
+    cmp "$folder/step.stream" "$folder/plain.stream"
+    cmp "$folder/step.image" "$folder/plain.image"
 }
-printf 'step into files: %s ms\n' "$(best step)"
-printf 'plain program:   %s ms\n' "$(best plain)"
-cmp "$folder/step.stream" "$folder/plain.stream"
-cmp "$folder/step.image" "$folder/plain.image"
-echo 'the same stream and image'
+compare count
+compare paint
+echo 'the same streams and images'

@@ -1,9 +1,12 @@
-/* The plain program that `step` is measured against: it writes the stream and the image of a guest of so
-   many pages, each painted with one byte, record by record through buffers of 64 KiB. */
+/* The plain program that `step` is measured against: it writes the stream and the image of a guest of so many
+   pages, record by record through buffers of 64 KiB. Either each page is painted with one byte (`paint`), or the
+   pages 0, 1, 2 and 14336 begin with the number 1,000 and all else is zero (`count`). */
 #include <stdint.h>
 #include <stdio.h>
 #include <stdlib.h>
 #include <string.h>
+
+static int is_painted;
 
 static void number(FILE *file, uint32_t value)
 {
@@ -20,30 +23,35 @@ static FILE *create(const char *path)
     return file;
 }
 
+static void put_page(FILE *file, uint32_t p)
+{
+    unsigned char page[4096];
+    memset(page, is_painted ? (int)(p % 256) : 0, sizeof page);
+    if (!is_painted && (p < 3 || p == 14336))
+        page[0] = 0xe8, page[1] = 3;
+    if (fwrite(page, 1, sizeof page, file) != sizeof page)
+        exit(4);
+}
+
 int main(int argc, char **argv)
 {
-    if (argc != 4)
+    if (argc != 5)
         return 1;
-    uint32_t pages = (uint32_t)atoi(argv[1]);
-    FILE *stream = create(argv[2]);
-    FILE *image = create(argv[3]);
-    unsigned char page[4096];
+    is_painted = strcmp(argv[1], "paint") == 0;
+    uint32_t pages = (uint32_t)atoi(argv[2]);
+    FILE *stream = create(argv[3]);
+    FILE *image = create(argv[4]);
     if (fwrite("DRSTREAM", 1, 8, stream) != 8)
         return 4;
     number(stream, 1), number(stream, pages);
     number(stream, 1), number(stream, 1);
     for (uint32_t p = 0; p < pages; p++) {
-        memset(page, (int)(p % 256), sizeof page);
         number(stream, 2), number(stream, p);
-        if (fwrite(page, 1, sizeof page, stream) != sizeof page)
-            return 4;
+        put_page(stream, p);
     }
     number(stream, 1), number(stream, 3);
     number(stream, 3), number(stream, pages);
-    for (uint32_t p = 0; p < pages; p++) {
-        memset(page, (int)(p % 256), sizeof page);
-        if (fwrite(page, 1, sizeof page, image) != sizeof page)
-            return 4;
-    }
+    for (uint32_t p = 0; p < pages; p++)
+        put_page(image, p);
     return fclose(stream) || fclose(image) ? 4 : 0;
 }
