@@ -129,7 +129,7 @@ impl Core {
         let _few = self.history.len();
         let pages = copied_pages(self.alloc, &e)?;
         self.history.reserve(1)?;
-        self.replay.make_room(&e)?;
+        self.replay.make_room(&self.guest, &e)?;
         self.replay.take(&self.guest, &e, pages);
         self.history.push_kept(e);
         Ok(())

@@ -69,7 +69,7 @@ impl Core {
         requires { page < page_count self.now.guest }
         ensures { result.now ≡ page_bytes self.now.guest page self.now.past }
     {
-        self.replay.memory.page(page).as_slice()
+        self.replay.page(page)
     }
 
     /// The value that a load of 8 bytes at an address gives, the least byte first.

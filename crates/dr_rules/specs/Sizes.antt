@@ -9,4 +9,4 @@ pub record IsSized (guest : Guest) (it : Replay) : Type 0 where
   pub few_pages : page_count guest < 2 ^ 32
   pub few_vcpus : length guest.scripts < 2 ^ 32
   pub shield : it.protection.pages ≡ page_count guest
-  pub memory : length it.memory ≡ page_count guest
+  pub memory : length it.memory.pages ≡ page_count guest

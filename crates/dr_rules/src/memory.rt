@@ -19,7 +19,7 @@ pub fn loaded_at(guest: &Guest, replay: &Replay, address: u64) -> u64
         result ≡ loaded (page_bytes guest.now page past) (address % 4096)) }
 {
     match page_of_address(guest, address) {
-        Some(page) => replay.memory.page(page).load((address % 4096) as usize),
+        Some(page) => replay.load(page, (address % 4096) as u32),
         None => 0,
     }
 }
@@ -34,8 +34,7 @@ pub fn reads_memory(guest: &Guest, replay: &Replay, e: &Event) -> bool
     match e {
         Event::Read { addr, value, .. } => match page_of_address(guest, *addr) {
             Some(page) => {
-                let at = (*addr % 4096) as usize;
-                *value == replay.memory.page(page).load(at)
+                *value == replay.load(page, (*addr % 4096) as u32)
             }
             None => false,
         },

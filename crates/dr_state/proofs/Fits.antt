@@ -24,7 +24,7 @@ use Rattle.dr_state.specs.Rows.{table, rows_of, row_of, HasRoom, IsWithin}
 use Rattle.dr_state.specs.Pages.{IsPageWithin, ClosingFits}
 use Rattle.dr_state.specs.Opened.{firsts, rows_are, entries_of, entry_of, OpeningFits, EntryFits}
 use Rattle.dr_state.specs.Scripts.{rest_of}
-use Rattle.dr_state.specs.Stores.{StoresWithin}
+use Rattle.dr_state.specs.Stores.{StoresWithin, StoreFits}
 use Rattle.dr_state.specs.Spans.{FitsEntries, FitsSleep, SpanFits}
 use Rattle.dr_state.specs.Whole.{IsReplay, IsNamed, CanReplay, CanTake}
 use Rattle.dr_state.specs.declared.vcpus.Vcpu.{Vcpu}
@@ -104,7 +104,7 @@ unfolding names_exist
 stores_within guest past (Write v i a l x) h = leb-true (a % 4096 + l) 4096 (and_parts _ _ (and_parts _ _ h).1).1
 stores_within guest past e h = tt
 
-pub memory_sized : (guest : Guest) (past : List Event) (it : Replay) → IsReplay guest past it → length it.memory ≡ page_count guest
+pub memory_sized : (guest : Guest) (past : List Event) (it : Replay) → IsReplay guest past it → length it.memory.pages ≡ page_count guest
 memory_sized guest past it h = ap length h.is_memory ∙ length-table (λ q. page_bytes guest q past) (page_count guest)
 
 pub rows_sized : (guest : Guest) (past : List Event) (it : Replay) → IsReplay guest past it → length it.entries.rows.items ≡ vcpu_count guest
@@ -123,7 +123,7 @@ named guest past e it h n =
       rows = at it.entries.rows.len (it.entries.rows.ok.0 ∙ rows_sized guest past it h);
       shield = at it.protection.vcpus h.shield_vcpus;
       pages = on it.protection.pages h.shield_pages;
-      memory = on (length it.memory) (memory_sized guest past it h);
+      memory = on (length it.memory.pages) (memory_sized guest past it h);
       held = at it.throttles.list.len (it.throttles.list.ok.0 ∙ h.are_throttles.sized);
     }
 
@@ -164,8 +164,8 @@ entry_fits guest past (Deposited v from to) n rows size legal are within fits =
     )
 entry_fits guest past e n rows size legal are within fits = tt
 
-pub can_take : (guest : Guest) (past : List Event) (e : Event) (it : Replay) → CanReplay guest → IsReplay guest past it → broken guest past e ≡ None → length past < 2 ^ 63 → OpeningFits e it.entries.rows.items → ClosingFits e it.protection.closing.1 → CanTake guest e it
-can_take guest past e it can h kept few opening room =
+pub can_take : (guest : Guest) (past : List Event) (e : Event) (it : Replay) → CanReplay guest → IsReplay guest past it → broken guest past e ≡ None → length past < 2 ^ 63 → OpeningFits e it.entries.rows.items → ClosingFits e it.protection.closing.1 → StoreFits guest e it.memory → CanTake guest e it
+can_take guest past e it can h kept few opening room store =
     let legal : IsLegalSoFar guest (e ∷ past) = (kept, h.legal) in
     let names : names_exist guest past e ≡ true = (keeps guest past e kept).names_exist_holds in
     record {
@@ -177,6 +177,7 @@ can_take guest past e it can h kept few opening room =
       copies = omega (arith, few, ap (λ r. r.copies) h.are_rounds, count_since_few is_copied is_synced past);
       whole = memory_sized guest past it h;
       stores = stores_within guest past e names;
+      store = store;
       sized = ap length h.are_vcpus ∙ length-rows (vcpu_count guest) past ∙ sym (it.throttles.list.ok.0 ∙ h.are_throttles.sized);
       spans = spans guest past e it.vcpus it.throttles.list.items can legal h.are_vcpus h.are_throttles.are_held;
     }

@@ -14,7 +14,7 @@ use Rattle.dr_state.specs.Scripts.{IsRunning}
 use Rattle.dr_state.specs.Opened.{AreEntries, EntryFits}
 use Rattle.dr_state.specs.Rounds.{rounds_of}
 use Rattle.dr_state.specs.Spans.{AreThrottles, SpanFits}
-use Rattle.dr_state.specs.Stores.{StoresWithin}
+use Rattle.dr_state.specs.Stores.{StoresWithin, StoreFits}
 use Rattle.dr_state.specs.declared.replay.Replay.{Replay}
 
 -- the events are legal so far, and each part of the state is what they leave
@@ -27,7 +27,7 @@ pub record IsReplay (guest : Guest) (past : List Event) (it : Replay) : Type 0 w
   pub is_running : IsRunning guest past it.running
   pub are_entries : AreEntries (vcpu_count guest) past it.entries
   pub are_rounds : it.rounds ≡ rounds_of guest past
-  pub is_memory : it.memory ≡ memory guest past
+  pub is_memory : it.memory.pages ≡ memory guest past
   pub are_throttles : AreThrottles guest past it.throttles
 
 -- the vCPU and the page that an event names are in the state
@@ -37,7 +37,7 @@ pub record IsNamed (it : Replay) (e : Event) : Type 0 where
   pub rows : IsWithin (vec_len it.entries.rows) e
   pub shield : IsWithin it.protection.vcpus e
   pub pages : IsPageWithin it.protection.pages e
-  pub memory : IsPageWithin (length it.memory) e
+  pub memory : IsPageWithin (length it.memory.pages) e
   pub held : IsWithin (vec_len it.throttles.list) e
 
 -- the guest is within the limits, and no repetition of its scripts is empty
@@ -56,7 +56,8 @@ pub record CanTake (guest : Guest) (e : Event) (it : Replay) : Type 0 where
   pub closing : ClosingFits e it.protection.closing.1
   pub asks : it.rounds.asks < 2 ^ 63
   pub copies : it.rounds.copies < 2 ^ 63
-  pub whole : length it.memory ≡ page_count guest
+  pub whole : length it.memory.pages ≡ page_count guest
   pub stores : StoresWithin e
+  pub store : StoreFits guest e it.memory
   pub sized : length it.vcpus ≡ vec_len it.throttles.list
   pub spans : SpanFits guest.settings.quota e it.vcpus it.throttles.list.items

@@ -17,7 +17,6 @@ mod turn;
 mod vcpus;
 
 pub use held::Throttles;
-pub use memory::GuestMemory;
 pub use replay::Replay;
 pub use ring::{Entries, Entry};
 pub use round_state::{Answer, Rounds};

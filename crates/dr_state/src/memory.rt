@@ -1,101 +1,83 @@
-ghost use Rattle.std.specs.Prelude.{◌≡◌, ◌+◌, ◌%◌, ◌≤◌, ◌<◌, ◌^◌, ◌∷◌, ℕ, List, Some, length, replicate, IfOk};
+ghost use Rattle.std.specs.Prelude.{◌≡◌, ◌+◌, ◌%◌, ◌≤◌, ◌<◌, ◌^◌, ◌∷◌, true, ℕ, List, Some, length, OnOk};
 ghost use Rattle.dr_types.specs.Pages.{page_of_address, page_count};
 ghost use Rattle.dr_types.specs.declared.guest.Guest.{Guest};
 ghost use Rattle.dr_history.specs.declared.event.Event.{Event};
-ghost use Rattle.dr_history.specs.Memory.{memory, page_bytes, filled};
+ghost use Rattle.dr_history.specs.Memory.{memory};
+ghost use Rattle.dr_memory.specs.Stores.{has_room};
 ghost use Rattle.dr_state.specs.Pages.{IsPageWithin};
-ghost use Rattle.dr_state.specs.Stores.{StoresWithin, IsUnstored};
+ghost use Rattle.dr_state.specs.Stores.{StoresWithin, StoreFits, IsUnstored};
 
-use dr_bytes::PageBytes;
 use dr_history::Event;
+use dr_memory::PageStore;
 use dr_slots::page_of_address;
 use dr_types::{Guest, Memory};
-use std::alloc::Global;
-use std::marker::Model;
 
-/// The guest's memory. Contracts see it as the list of its pages.
-#[derive(Drop)]
-pub struct GuestMemory {
-    pages: Vec<PageBytes>,
+/// Room for what an event stores.
+pub fn make_room(store: &mut PageStore, guest: &Guest, e: &Event) -> Result<(), Memory>
+    requires few { page_count guest.now < 2 ^ 32 }
+    requires whole { length store.old.pages ≡ page_count guest.now }
+    requires page { IsPageWithin (length store.old.pages) e.now }
+    ensures pages { store.new.pages ≡ store.old.pages }
+    ensures ok { OnOk result (StoreFits guest.now e.now store.new) }
+{
+    match e {
+        Event::Write { addr, .. } => match page_of_address(guest, *addr) {
+            Some(page) => store.make_room(page),
+            None => Ok(()),
+        },
+        Event::Paint { page, .. } => store.make_room(*page),
+        _ => Ok(()),
+    }
 }
 
-impl Model for GuestMemory {
-    ghost use Rattle.std.specs.Prelude.{List, ℕ};
-
-    ghost Value = { List (List ℕ) };
-
-    ghost view = { λ it. it.pages.items };
+/// Takes an event.
+pub fn take(store: &mut PageStore, guest: &Guest, e: &Event)
+    requires few { page_count guest.now < 2 ^ 32 }
+    requires whole { length store.old.pages ≡ page_count guest.now }
+    requires page { IsPageWithin (length store.old.pages) e.now }
+    requires within { StoresWithin e.now }
+    requires room { StoreFits guest.now e.now store.old }
+    ensures { (past : List Event) → store.old.pages ≡ memory guest.now past
+        → store.new.pages ≡ memory guest.now (e.now ∷ past) }
+{
+    match e {
+        Event::Write {
+            addr,
+            len,
+            value,
+            ..
+        } => match page_of_address(guest, *addr) {
+            Some(page) => stored(store, page, (*addr % 4096) as u32, *len, *value),
+            None => unseen(store),
+        },
+        Event::Paint { page, byte, .. } => painted(store, *page, *byte),
+        _ => unseen(store),
+    }
 }
 
-impl GuestMemory {
-    /// So many pages of zeros.
-    #[tactic(auto, using(crate::proofs::Stored::one_page_more))]
-    pub fn new(alloc: Global, count: u32) -> Result<GuestMemory, Memory>
-        ensures { IfOk result (λ it. it ≡ replicate count (filled 0)) }
-    {
-        let mut pages = Vec::new(alloc);
-        for page in 0..count {
-            pages.push(PageBytes::new(alloc)?)?;
-        }
-        Ok(GuestMemory { pages })
-    }
-
-    /// The bytes of a page.
-    #[tactic(auto, using(crate::proofs::Stored::reads_page))]
-    pub fn page(&self, page: u32) -> &PageBytes
-        requires { page < length self.now }
-        ensures { (guest : Guest) (past : List Event) → self.now ≡ memory guest past
-            → result.now ≡ page_bytes guest page past }
-    {
-        &self.pages[page as usize]
-    }
-
-    /// Takes an event.
-    pub fn take(&mut self, guest: &Guest, e: &Event)
-        requires few { page_count guest.now < 2 ^ 32 }
-        requires whole { length self.old ≡ page_count guest.now }
-        requires page { IsPageWithin (length self.old) e.now }
-        requires within { StoresWithin e.now }
-        ensures { (past : List Event) → self.old ≡ memory guest.now past
-            → self.new ≡ memory guest.now (e.now ∷ past) }
-    {
-        match e {
-            Event::Write {
-                addr,
-                len,
-                value,
-                ..
-            } => match page_of_address(guest, *addr) {
-                Some(page) => self.stored(page, (*addr % 4096) as usize, *len, *value),
-                None => self.unseen(),
-            },
-            Event::Paint { page, byte, .. } => self.painted(*page, *byte),
-            _ => self.unseen(),
-        }
-    }
-
-    fn stored(&mut self, page: u32, at: usize, len: u32, value: u64)
-        requires page { page < length self.old }
-        requires within { at + len ≤ 4096 }
-        ensures { (guest : Guest) (past : List Event) (v i addr : ℕ)
-            → page_of_address guest addr ≡ Some page → addr % 4096 ≡ at
-            → self.old ≡ memory guest past
-            → self.new ≡ memory guest (Event.Write v i addr len value ∷ past) }
-    {
-        self.pages[page as usize].store(at, len, value);
-    }
-
-    fn painted(&mut self, page: u32, byte: u8)
-        requires { page < length self.old }
-        ensures { (guest : Guest) (past : List Event) (v i : ℕ) → self.old ≡ memory guest past
-            → self.new ≡ memory guest (Event.Paint v i page byte ∷ past) }
-    {
-        self.pages[page as usize].fill(byte);
-    }
-
-    #[tactic(auto, using(crate::proofs::Stored::unseen))]
-    fn unseen(&mut self)
-        ensures { (guest : Guest) (past : List Event) (e : Event) → IsUnstored guest e
-            → self.old ≡ memory guest past → self.new ≡ memory guest (e ∷ past) }
-    {}
+fn stored(store: &mut PageStore, page: u32, at: u32, len: u32, value: u64)
+    requires page { page < length store.old.pages }
+    requires room { has_room page store.old ≡ true }
+    requires within { at + len ≤ 4096 }
+    ensures { (guest : Guest) (past : List Event) (v i addr : ℕ)
+        → page_of_address guest addr ≡ Some page → addr % 4096 ≡ at
+        → store.old.pages ≡ memory guest past
+        → store.new.pages ≡ memory guest (Event.Write v i addr len value ∷ past) }
+{
+    store.write(page, at, len, value);
 }
+
+fn painted(store: &mut PageStore, page: u32, byte: u8)
+    requires page { page < length store.old.pages }
+    requires room { has_room page store.old ≡ true }
+    ensures { (guest : Guest) (past : List Event) (v i : ℕ) → store.old.pages ≡ memory guest past
+        → store.new.pages ≡ memory guest (Event.Paint v i page byte ∷ past) }
+{
+    store.paint(page, byte);
+}
+
+#[tactic(auto, using(crate::proofs::Stored::unseen))]
+fn unseen(store: &mut PageStore)
+    ensures { (guest : Guest) (past : List Event) (e : Event) → IsUnstored guest e
+        → store.old.pages ≡ memory guest past → store.new.pages ≡ memory guest (e ∷ past) }
+{}

@@ -1,10 +1,10 @@
 use crate::held::Throttles;
-use crate::memory::GuestMemory;
 use crate::ring::Entries;
 use crate::round_state::Rounds;
 use crate::scripts::Running;
 use crate::shield::Protection;
 use crate::vcpus::Vcpus;
+use dr_memory::PageStore;
 
 /// What the events so far leave.
 #[derive(Drop)]
@@ -14,6 +14,6 @@ pub struct Replay {
     pub running: Running,
     pub entries: Entries,
     pub rounds: Rounds,
-    pub memory: GuestMemory,
+    pub memory: PageStore,
     pub throttles: Throttles,
 }

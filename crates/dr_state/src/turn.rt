@@ -3,13 +3,15 @@ ghost use Rattle.dr_types.specs.declared.guest.Guest.{Guest};
 ghost use Rattle.dr_types.specs.Pages.{page_count};
 ghost use Rattle.dr_history.specs.declared.event.Event.{Event};
 ghost use Rattle.dr_history.specs.Legality.{broken};
+ghost use Rattle.dr_history.specs.Memory.{page_bytes, loaded};
 ghost use Rattle.dr_history.specs.Rounds.{answered_pages};
 ghost use Rattle.dr_state.specs.Opened.{OpeningFits, HasRoomAt};
-ghost use Rattle.dr_state.specs.Pages.{ClosingFits, page_reset};
+ghost use Rattle.dr_state.specs.Pages.{IsPageWithin, ClosingFits, page_reset};
+ghost use Rattle.dr_state.specs.Stores.{StoreFits};
 ghost use Rattle.dr_state.specs.Whole.{IsReplay, IsNamed, CanReplay, CanTake};
 
 use crate::held::Throttles;
-use crate::memory::GuestMemory;
+use crate::memory;
 use crate::replay::Replay;
 use crate::ring::Entries;
 use crate::round_state::Rounds;
@@ -17,6 +19,7 @@ use crate::scripts::Running;
 use crate::shield::Protection;
 use crate::vcpus::Vcpus;
 use dr_history::Event;
+use dr_memory::PageStore;
 use dr_slots::page_count;
 use dr_types::{Guest, Memory, PageList};
 use std::alloc::Global;
@@ -35,9 +38,30 @@ impl Replay {
             running: Running::new(alloc, guest)?,
             entries: Entries::new(alloc, vcpus)?,
             rounds: Rounds::new(guest.settings.threshold),
-            memory: GuestMemory::new(alloc, pages)?,
+            memory: PageStore::new(alloc, pages)?,
             throttles: Throttles::new(alloc, vcpus)?,
         })
+    }
+
+    /// The bytes of a page.
+    #[tactic(auto, using(crate::proofs::Stored::shows_page))]
+    pub fn page(&self, page: u32) -> &[u8]
+        requires { page < length self.now.memory.pages }
+        ensures { (guest : Guest) (past : List Event) → IsReplay guest past self.now
+            → result.now ≡ page_bytes guest page past }
+    {
+        self.memory.page(page)
+    }
+
+    /// The eight bytes of a page from a place on, the least first.
+    #[tactic(auto, using(crate::proofs::Stored::shows_word))]
+    pub fn load(&self, page: u32, at: u32) -> u64
+        requires page { page < length self.now.memory.pages }
+        requires within { at < 4096 }
+        ensures { (guest : Guest) (past : List Event) → IsReplay guest past self.now
+            → result ≡ loaded (page_bytes guest page past) at }
+    {
+        self.memory.read8(page, at)
     }
 
     /// The page of the entry that an event resets.
@@ -72,17 +96,33 @@ impl Replay {
         self.protection.closing.make_room()
     }
 
+    /// Room for what an event stores.
+    fn make_page_room(&mut self, guest: &Guest, e: &Event) -> Result<(), Memory>
+        requires few { page_count guest.now < 2 ^ 32 }
+        requires whole { length self.old.memory.pages ≡ page_count guest.now }
+        requires page { IsPageWithin (length self.old.memory.pages) e.now }
+        ensures replay { (guest : Guest) (past : List Event) → IsReplay guest past self.old
+            → IsReplay guest past self.new }
+        ensures ok { OnOk result (StoreFits guest.now e.now self.new.memory) }
+    {
+        memory::make_room(&mut self.memory, guest, e)
+    }
+
     /// Room for an event.
-    pub fn make_room(&mut self, e: &Event) -> Result<(), Memory>
-        requires { IsNamed self.old e.now }
+    pub fn make_room(&mut self, guest: &Guest, e: &Event) -> Result<(), Memory>
+        requires few { page_count guest.now < 2 ^ 32 }
+        requires whole { length self.old.memory.pages ≡ page_count guest.now }
+        requires named { IsNamed self.old e.now }
         ensures replay { (guest : Guest) (past : List Event) → IsReplay guest past self.old
             → IsReplay guest past self.new }
         ensures entry { OnOk result (OpeningFits e.now self.new.entries.rows.items) }
         ensures closing { OnOk result (ClosingFits e.now self.new.protection.closing.1) }
+        ensures store { OnOk result (StoreFits guest.now e.now self.new.memory) }
     {
         match e {
             Event::Opened { v, .. } => self.make_entry_room(*v),
             Event::Reset { .. } => self.make_closing_room(),
+            Event::Write { .. } | Event::Paint { .. } => self.make_page_room(guest, e),
             _ => Ok(()),
         }
     }
@@ -102,7 +142,7 @@ impl Replay {
         self.running.take(e);
         self.entries.take(e);
         self.rounds.take(e, pages);
-        self.memory.take(guest, e);
+        memory::take(&mut self.memory, guest, e);
     }
 }
 
