@@ -1,0 +1,4 @@
+pub mod Permissions
+pub mod Masks
+pub mod Calls
+pub mod Kept

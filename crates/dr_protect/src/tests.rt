@@ -1,0 +1,141 @@
+ghost use Rattle.std.specs.Prelude.{◌≡◌, ◌<◌, IfOk};
+ghost use Rattle.dr_types.specs.Validity.{AreSlots};
+ghost use Rattle.dr_types.specs.Pages.{pages_of_slots};
+
+use crate::Protect;
+use dr_types::{Listed, PageList, SlotList, SlotRow};
+use std::alloc::Global;
+use std::test::Fail;
+
+/// The first and the last bit of a mask.
+const FIRST_AND_LAST: u64 = 0x8000_0000_0000_0001;
+
+/// Slot 5 of two pages, 0 and 1, and slot 7 of 66, from 2 to 67.
+#[tactic(auto, using(crate::proofs::Samples::two_are_slots))]
+fn two_slots(alloc: Global) -> Result<SlotList, Fail>
+    ensures slots { IfOk result AreSlots }
+    ensures pages { IfOk result (λ rows. pages_of_slots rows ≡ 68) }
+{
+    Ok(Listed::from_vec(vec![in alloc;
+        SlotRow {
+            id: 5,
+            base: 100,
+            pages: 2
+        },
+        SlotRow {
+            id: 7,
+            base: 0,
+            pages: 66
+        },
+    ]?))
+}
+
+/// Their pages, where two vCPUs run.
+fn two_vcpus(alloc: Global) -> Result<Protect, Fail>
+    ensures vcpus { IfOk result (λ it. it.vcpus ≡ 2) }
+    ensures pages { IfOk result (λ it. it.pages ≡ 68) }
+{
+    Ok(Protect::new(alloc, &two_slots(alloc)?, 2)?)
+}
+
+/// The pages that may not be written.
+fn protected_pages(alloc: Global, protect: &Protect) -> Result<PageList, Fail>
+    requires { protect.now.pages ≡ 68 }
+{
+    let mut pages = Listed::new(alloc);
+    for page in 0..68 {
+        if !protect.writable(page) {
+            pages.push(page)?;
+        }
+    }
+    Ok(pages)
+}
+
+/// The pages that a vCPU has cached.
+fn cached_pages(alloc: Global, protect: &Protect, v: u32) -> Result<PageList, Fail>
+    requires vcpu { v < protect.now.vcpus }
+    requires pages { protect.now.pages ≡ 68 }
+{
+    let mut pages = Listed::new(alloc);
+    for page in 0..68 {
+        if protect.cached(v, page) {
+            pages.push(page)?;
+        }
+    }
+    Ok(pages)
+}
+
+/// The pages that a mask protects.
+fn masked_pages(alloc: Global, slot: u32, base: u64, mask: u64) -> Result<PageList, Fail> {
+    let mut protect = two_vcpus(alloc)?;
+    protect.protect_mask(slot, base, mask);
+    protected_pages(alloc, &protect)
+}
+
+#[test]
+fn a_mask_protects_the_pages_that_it_names(rt: HostRuntime) -> Result<(), Fail> {
+    let alloc = rt.alloc();
+    assert!(rt; masked_pages(alloc, 7, 2, FIRST_AND_LAST)?.as_slice() == [4, 67].as_slice());
+    assert!(rt; masked_pages(alloc, 5, 0, 2)?.as_slice() == [1].as_slice());
+    assert!(rt; masked_pages(alloc, 7, 0, 0)?.is_empty());
+    Ok(())
+}
+
+#[test]
+fn a_mask_passes_over_places_in_no_slot(rt: HostRuntime) -> Result<(), Fail> {
+    let alloc = rt.alloc();
+    assert!(rt; masked_pages(alloc, 7, 3, FIRST_AND_LAST)?.as_slice() == [5].as_slice());
+    assert!(rt; masked_pages(alloc, 6, 0, FIRST_AND_LAST)?.is_empty());
+    assert!(rt; masked_pages(alloc, 7, u64::MAX, u64::MAX)?.is_empty());
+    Ok(())
+}
+
+/// Opens page 3 for the first vCPU and fills it for the second, which opens page 67.
+fn share(protect: &mut Protect)
+    requires vcpus { protect.old.vcpus ≡ 2 }
+    requires pages { protect.old.pages ≡ 68 }
+    ensures vcpus { protect.new.vcpus ≡ 2 }
+    ensures pages { protect.new.pages ≡ 68 }
+{
+    protect.open_page(0, 3);
+    if protect.writable(3) {
+        protect.fill(1, 3);
+    }
+    protect.open_page(1, 67);
+}
+
+#[test]
+fn a_flush_takes_each_cached_page_of_both_vcpus(rt: HostRuntime) -> Result<(), Fail> {
+    let alloc = rt.alloc();
+    let mut protect = two_vcpus(alloc)?;
+    share(&mut protect);
+    assert!(rt; cached_pages(alloc, &protect, 0)?.as_slice() == [3].as_slice());
+    assert!(rt; cached_pages(alloc, &protect, 1)?.as_slice() == [3, 67].as_slice());
+    protect.flush();
+    assert!(rt; cached_pages(alloc, &protect, 0)?.is_empty());
+    assert!(rt; cached_pages(alloc, &protect, 1)?.is_empty());
+    assert!(rt; protected_pages(alloc, &protect)?.is_empty());
+    Ok(())
+}
+
+#[test]
+fn where_logging_starts_nothing_may_be_written(rt: HostRuntime) -> Result<(), Fail> {
+    let alloc = rt.alloc();
+    let mut protect = two_vcpus(alloc)?;
+    share(&mut protect);
+    protect.start();
+    assert_eq!(rt; protected_pages(alloc, &protect)?.len(), 68);
+    assert!(rt; cached_pages(alloc, &protect, 1)?.is_empty());
+    Ok(())
+}
+
+#[test]
+fn a_protected_page_stays_cached(rt: HostRuntime) -> Result<(), Fail> {
+    let mut protect = two_vcpus(rt.alloc())?;
+    protect.open_page(1, 5);
+    protect.protect_page(5);
+    assert!(rt; !protect.writable(5));
+    assert!(rt; protect.cached(1, 5));
+    assert!(rt; !protect.cached(0, 5));
+    Ok(())
+}
