@@ -52,6 +52,20 @@ impl Protect {
         })
     }
 
+    /// How many vCPUs there are.
+    pub fn vcpus(&self) -> u32
+        ensures { result ≡ self.now.vcpus }
+    {
+        self.vcpus
+    }
+
+    /// How many pages there are.
+    pub fn pages(&self) -> u32
+        ensures { result ≡ self.now.pages }
+    {
+        self.pages
+    }
+
     /// Logging starts: no page may be written, and none is cached.
     pub fn start(&mut self)
         ensures { self.new ≡ started self.old }

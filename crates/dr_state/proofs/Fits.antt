@@ -15,13 +15,14 @@ use Rattle.dr_history.specs.Kinds.{is_op_of, is_opened_of, is_pushed_of, is_rese
 use Rattle.dr_history.specs.Entries.{opens, pushes}
 use Rattle.dr_history.specs.Throttles.{begins_span, throttle}
 use Rattle.dr_history.specs.Memory.{page_bytes}
-use Rattle.dr_history.specs.Rules.{names_exist, deposits_pushed}
+use Rattle.dr_history.specs.Protection.{writable}
+use Rattle.dr_history.specs.Rules.{names_exist, deposits_pushed, fills_writable}
 use Rattle.dr_history.specs.Legality.{IsLegalSoFar, broken}
 use Rattle.dr_law.proofs.Kept.{keeps}
 use Rattle.dr_law.proofs.Outstanding.{pushed_opened}
 use Rattle.dr_law.proofs.Limits.{fits_rate, fits_throttle}
 use Rattle.dr_state.specs.Rows.{table, rows_of, row_of, HasRoom, IsWithin}
-use Rattle.dr_state.specs.Pages.{IsPageWithin, ClosingFits}
+use Rattle.dr_state.specs.Pages.{IsPageWithin, IsProtection, FillFits, ClosingFits}
 use Rattle.dr_state.specs.Opened.{firsts, rows_are, entries_of, entry_of, OpeningFits, EntryFits}
 use Rattle.dr_state.specs.Scripts.{rest_of}
 use Rattle.dr_state.specs.Stores.{StoresWithin, StoreFits}
@@ -164,6 +165,14 @@ entry_fits guest past (Deposited v from to) n rows size legal are within fits =
     )
 entry_fits guest past e n rows size legal are within fits = tt
 
+-- a page that is filled may be written
+fill_fits : (guest : Guest) (past : List Event) (e : Event) (it : Replay) → names_exist guest past e ≡ true → fills_writable guest past e ≡ true → IsProtection past it.protection → IsPageWithin it.protection.permissions.pages e → FillFits e it.protection.permissions
+unfolding fills_writable
+fill_fits guest past (Filled v page) it names holds are within =
+    let may : writable page past ≡ true = (and_parts _ _ (and_parts _ _ holds).0).1 in
+    ap (λ xs. get_or xs page false) are.is_writable ∙ get-table (λ q. writable q past) it.protection.permissions.pages page false within ∙ may
+fill_fits guest past e it names holds are within = tt
+
 pub can_take : (guest : Guest) (past : List Event) (e : Event) (it : Replay) → CanReplay guest → IsReplay guest past it → broken guest past e ≡ None → length past < 2 ^ 63 → OpeningFits e it.entries.rows.items → ClosingFits e it.protection.closing.1 → StoreFits guest e it.memory → CanTake guest e it
 can_take guest past e it can h kept few opening room store =
     let legal : IsLegalSoFar guest (e ∷ past) = (kept, h.legal) in
@@ -172,6 +181,7 @@ can_take guest past e it can h kept few opening room store =
       named = named guest past e it h names;
       counts = rooms it.vcpus (vcpu_count guest) past h.are_vcpus few;
       entry = entry_fits guest past e (vcpu_count guest) it.entries.rows.items refl legal h.are_entries (vcpu_within guest past e names) opening;
+      fill = fill_fits guest past e it names (keeps guest past e kept).fills_writable_holds h.is_protection (rw h.shield_pages (page_within guest past e names));
       closing = room;
       asks = omega (arith, few, ap (λ r. r.asks) h.are_rounds, count_few is_asked past);
       copies = omega (arith, few, ap (λ r. r.copies) h.are_rounds, count_since_few is_copied is_synced past);

@@ -11,3 +11,4 @@ pub mod Stored
 pub mod Firsts
 pub mod Fits
 pub mod Valid
+pub mod Untouched

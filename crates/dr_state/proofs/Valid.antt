@@ -31,6 +31,9 @@ pub can_replay : (guest : Guest) → IsValid guest → CanReplay guest
 can_replay guest valid = record {
   pages = omega (arith, valid.slots.pages);
   vcpus = omega (arith, valid.vcpus);
+  slots = valid.slots;
+  some_vcpu = valid.some_vcpu;
+  few_vcpus = valid.vcpus;
   quota = valid.settings.quota;
   limits = fits_limits guest valid;
   run = scripts_run guest.slots guest.scripts valid.scripts;

@@ -3,13 +3,14 @@ use Rattle.std.specs.Prelude.{◌≡◌, ◌<◌, ◌≤◌, ◌^◌, List, All,
 use Rattle.dr_types.specs.declared.guest.Guest.{Guest}
 use Rattle.dr_types.specs.Pages.{page_count}
 use Rattle.dr_types.specs.Scripts.{vcpu_count}
+use Rattle.dr_types.specs.Validity.{AreSlots}
 use Rattle.dr_history.specs.declared.event.Event.{Event}
 use Rattle.dr_history.specs.Memory.{memory}
 use Rattle.dr_history.specs.Legality.{IsLegalSoFar}
 use Rattle.dr_law.specs.Limits.{FitsLimits}
 use Rattle.dr_script.specs.Places.{AllRun}
 use Rattle.dr_state.specs.Rows.{rows_of, IsWithin, HasRoom}
-use Rattle.dr_state.specs.Pages.{IsProtection, IsPageWithin, ClosingFits}
+use Rattle.dr_state.specs.Pages.{IsProtection, IsPageWithin, FillFits, ClosingFits}
 use Rattle.dr_state.specs.Scripts.{IsRunning}
 use Rattle.dr_state.specs.Opened.{AreEntries, EntryFits}
 use Rattle.dr_state.specs.Rounds.{rounds_of}
@@ -22,8 +23,8 @@ pub record IsReplay (guest : Guest) (past : List Event) (it : Replay) : Type 0 w
   pub legal : IsLegalSoFar guest past
   pub are_vcpus : it.vcpus ≡ rows_of (vcpu_count guest) past
   pub is_protection : IsProtection past it.protection
-  pub shield_vcpus : it.protection.vcpus ≡ vcpu_count guest
-  pub shield_pages : it.protection.pages ≡ page_count guest
+  pub shield_vcpus : it.protection.permissions.vcpus ≡ vcpu_count guest
+  pub shield_pages : it.protection.permissions.pages ≡ page_count guest
   pub is_running : IsRunning guest past it.running
   pub are_entries : AreEntries (vcpu_count guest) past it.entries
   pub are_rounds : it.rounds ≡ rounds_of guest past
@@ -35,8 +36,8 @@ pub record IsNamed (it : Replay) (e : Event) : Type 0 where
   pub vcpus : IsWithin (length it.vcpus) e
   pub readers : IsWithin (vec_len it.running.readers) e
   pub rows : IsWithin (vec_len it.entries.rows) e
-  pub shield : IsWithin it.protection.vcpus e
-  pub pages : IsPageWithin it.protection.pages e
+  pub shield : IsWithin it.protection.permissions.vcpus e
+  pub pages : IsPageWithin it.protection.permissions.pages e
   pub memory : IsPageWithin (length it.memory.pages) e
   pub held : IsWithin (vec_len it.throttles.list) e
 
@@ -44,6 +45,9 @@ pub record IsNamed (it : Replay) (e : Event) : Type 0 where
 pub record CanReplay (guest : Guest) : Type 0 where
   pub pages : page_count guest < 2 ^ 32
   pub vcpus : length guest.scripts < 2 ^ 32
+  pub slots : AreSlots guest.slots
+  pub some_vcpu : 1 ≤ length guest.scripts
+  pub few_vcpus : length guest.scripts ≤ 32
   pub quota : guest.settings.quota ≤ 1000000000
   pub limits : FitsLimits guest
   pub run : All AllRun guest.scripts
@@ -53,6 +57,7 @@ pub record CanTake (guest : Guest) (e : Event) (it : Replay) : Type 0 where
   pub named : IsNamed it e
   pub counts : All HasRoom it.vcpus
   pub entry : EntryFits e it.entries.rows.items
+  pub fill : FillFits e it.protection.permissions
   pub closing : ClosingFits e it.protection.closing.1
   pub asks : it.rounds.asks < 2 ^ 63
   pub copies : it.rounds.copies < 2 ^ 63

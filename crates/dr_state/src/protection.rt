@@ -1,83 +1,80 @@
-ghost use Rattle.std.specs.Prelude.{◌≡◌, ◌+◌, ◌*◌, ◌<◌, ◌≤◌, ◌^◌, [], ◌∷◌, true, false, ℕ, List, Some, IfSome, IfOk, OnOk, length, slice_index_or, vec_len};
-ghost use Rattle.std.specs.List.{list_any};
-ghost use Rattle.dr_flags.specs.Marked.{is_set, AllUnder};
+ghost use Rattle.std.specs.Prelude.{◌≡◌, ◌<◌, ◌≤◌, [], ◌∷◌, true, ℕ, List, Some, IfSome, IfOk, length};
+ghost use Rattle.dr_types.specs.Pages.{pages_of_slots};
+ghost use Rattle.dr_types.specs.Validity.{AreSlots};
+ghost use Rattle.dr_types.specs.declared.guest.Guest.{Guest};
+ghost use Rattle.dr_flags.specs.Marked.{AllUnder};
+ghost use Rattle.dr_protect.specs.Permissions.{is_writable};
 ghost use Rattle.dr_state.specs.Sets.{with_set};
 ghost use Rattle.dr_history.specs.declared.event.Event.{Event};
-ghost use Rattle.dr_history.specs.Protection.{opened_last, cached, closing};
+ghost use Rattle.dr_history.specs.Legality.{IsLegalSoFar};
+ghost use Rattle.dr_history.specs.Protection.{started, writable, cached};
 ghost use Rattle.dr_history.specs.Dirty.{dirty};
-ghost use Rattle.dr_state.specs.Pages.{IsProtection, IsUnshielded, SameSizes, IsPageWithin, ClosingFits, page_reset};
+ghost use Rattle.dr_state.specs.Pages.{IsProtection, IsUnshielded, IsUntouched, SameSizes, IsPageWithin, FillFits, ClosingFits, page_reset};
 ghost use Rattle.dr_state.specs.Rows.{IsWithin};
 
 use crate::shield::Protection;
-use dr_flags::{Flags, Marks};
+use dr_bitmap::Bitmap;
+use dr_flags::Marks;
 use dr_history::Event;
-use dr_types::Memory;
+use dr_protect::Protect;
+use dr_slots::pages_in;
+use dr_types::{Memory, SlotList};
 use std::alloc::Global;
 
 impl Protection {
-    /// So many vCPUs and pages, before any event.
+    /// The pages of these slots and so many vCPUs, before any event.
     #[tactic(auto, using(crate::proofs::Firsts::no_flags))]
-    pub fn new(alloc: Global, vcpus: u32, pages: u32) -> Result<Protection, Memory>
+    pub fn new(alloc: Global, slots: &SlotList, vcpus: u32) -> Result<Protection, Memory>
+        requires slots { AreSlots slots.now }
+        requires some_vcpu { 1 ≤ vcpus }
+        requires few_vcpus { vcpus ≤ 32 }
         ensures flags { IfOk result (λ it. IsProtection [] it) }
-        ensures vcpus { IfOk result (λ it. it.vcpus ≡ vcpus) }
-        ensures pages { IfOk result (λ it. it.pages ≡ pages) }
+        ensures vcpus { IfOk result (λ it. it.permissions.vcpus ≡ vcpus) }
+        ensures pages { IfOk result (λ it. it.permissions.pages ≡ pages_of_slots slots.now) }
     {
+        let pages = pages_in(slots.as_slice());
         Ok(Protection {
-            vcpus,
-            pages,
-            opened: vec![in alloc; false; pages as usize]?,
-            cached: Flags::new(alloc, vcpus as usize * pages as usize)?,
+            permissions: Protect::new(alloc, slots, vcpus)?,
             closing: Marks::new(alloc, pages)?,
-            dirty: vec![in alloc; false; pages as usize]?,
+            dirty: Bitmap::new(alloc, pages)?,
         })
     }
 
-    /// The last Opened or Reset of a page was an Opened.
-    #[tactic(auto, using(crate::proofs::Protects::reads_opened))]
-    pub fn is_opened(&self, page: u32) -> bool
-        requires { page < self.now.pages }
-        ensures { (past : List Event) → IsProtection past self.now
-            → result ≡ opened_last page past }
+    /// A page may be written.
+    pub fn is_writable(&self, page: u32) -> bool
+        requires { page < self.now.permissions.pages }
+        ensures { (past : List Event) → IsProtection past self.now → result ≡ writable page past }
     {
-        self.opened[page as usize]
+        self.permissions.writable(page)
     }
 
     /// The destination lacks a page.
-    #[tactic(auto, using(crate::proofs::Protects::reads_dirty))]
     pub fn is_dirty(&self, page: u32) -> bool
-        requires { page < self.now.pages }
+        requires { page < self.now.permissions.pages }
         ensures { (past : List Event) → IsProtection past self.now → result ≡ dirty page past }
     {
-        self.dirty[page as usize]
+        self.dirty.contains(page)
     }
 
     /// A vCPU has its permission to write a page.
-    #[tactic(auto, using(crate::proofs::Protects::reads_cached, crate::proofs::Cells::cell_within))]
     pub fn is_cached(&self, v: u32, page: u32) -> bool
-        requires vcpu { v < self.now.vcpus }
-        requires page { page < self.now.pages }
+        requires vcpu { v < self.now.permissions.vcpus }
+        requires page { page < self.now.permissions.pages }
         ensures { (past : List Event) → IsProtection past self.now → result ≡ cached v page past }
     {
-        self.cached.get(self.cell(v, page))
-    }
-
-    #[tactic(auto, using(crate::proofs::Cells::cell_within))]
-    fn cell(&self, v: u32, page: u32) -> usize
-        requires vcpu { v < self.now.vcpus }
-        requires page { page < self.now.pages }
-        ensures { result ≡ v * self.now.pages + page }
-    {
-        v as usize * self.pages as usize + page as usize
+        self.permissions.cached(v, page)
     }
 
     /// Takes an event. The page is that of the entry that it resets.
     pub fn take(&mut self, e: &Event, reset: Option<u32>)
-        requires vcpu { IsWithin self.old.vcpus e.now }
-        requires page { IsPageWithin self.old.pages e.now }
-        requires reset { IfSome reset (λ page. page < self.old.pages) }
+        requires vcpu { IsWithin self.old.permissions.vcpus e.now }
+        requires page { IsPageWithin self.old.permissions.pages e.now }
+        requires reset { IfSome reset (λ page. page < self.old.permissions.pages) }
+        requires fill { FillFits e.now self.old.permissions }
         requires room { ClosingFits e.now self.old.closing.1 }
         ensures sizes { SameSizes self.old self.new }
-        ensures replay { (past : List Event) → reset ≡ page_reset e.now past
+        ensures replay { (guest : Guest) (past : List Event) → IsLegalSoFar guest (e.now ∷ past)
+            → reset ≡ page_reset e.now past
             → IsProtection past self.old → IsProtection (e.now ∷ past) self.new }
     {
         match e {
@@ -94,89 +91,81 @@ impl Protection {
         }
     }
 
-    #[tactic(auto, using(crate::proofs::Protects::started))]
     fn started(&mut self)
         ensures sizes { SameSizes self.old self.new }
-        ensures replay { (past : List Event) (at : ℕ) → IsProtection past self.old
-            → IsProtection (Event.Start at ∷ past) self.new }
+        ensures replay { (past : List Event) (at : ℕ) → IsUntouched past
+            → IsProtection past self.old → IsProtection (Event.Start at ∷ past) self.new }
     {
-        self.dirty.fill(true);
+        self.permissions.start();
+        self.dirty.set_all();
     }
 
-    #[tactic(auto, using(crate::proofs::Protects::opened, crate::proofs::Cells::cell_within))]
     fn opened(&mut self, v: u32, page: u32)
-        requires vcpu { v < self.old.vcpus }
-        requires page { page < self.old.pages }
+        requires vcpu { v < self.old.permissions.vcpus }
+        requires page { page < self.old.permissions.pages }
         ensures sizes { SameSizes self.old self.new }
         ensures replay { (past : List Event) (k : ℕ) → IsProtection past self.old
             → IsProtection (Event.Opened v k page ∷ past) self.new }
     {
-        let cell = self.cell(v, page);
-        self.opened[page as usize] = true;
-        self.cached.set(cell);
+        self.permissions.open_page(v, page);
     }
 
-    #[tactic(auto, using(crate::proofs::Protects::filled, crate::proofs::Cells::cell_within))]
     fn filled(&mut self, v: u32, page: u32)
-        requires vcpu { v < self.old.vcpus }
-        requires page { page < self.old.pages }
+        requires vcpu { v < self.old.permissions.vcpus }
+        requires page { page < self.old.permissions.pages }
+        requires writable { is_writable page self.old.permissions ≡ true }
         ensures sizes { SameSizes self.old self.new }
         ensures replay { (past : List Event) → IsProtection past self.old
             → IsProtection (Event.Filled v page ∷ past) self.new }
     {
-        let cell = self.cell(v, page);
-        self.cached.set(cell);
+        self.permissions.fill(v, page);
     }
 
-    #[tactic(auto, using(crate::proofs::Protects::reset))]
     fn reset(&mut self, page: u32)
-        requires page { page < self.old.pages }
+        requires page { page < self.old.permissions.pages }
         requires room { 1 ≤ self.old.closing.1 }
         ensures sizes { SameSizes self.old self.new }
         ensures replay { (past : List Event) (v k : ℕ)
-            → page_reset (Event.Reset v k) past ≡ Some page → IsProtection past self.old
-            → IsProtection (Event.Reset v k ∷ past) self.new }
+            → started past ≡ true → page_reset (Event.Reset v k) past ≡ Some page
+            → IsProtection past self.old → IsProtection (Event.Reset v k ∷ past) self.new }
     {
-        self.opened[page as usize] = false;
+        self.permissions.protect_page(page);
         self.closing.mark(page);
     }
 
-    #[tactic(auto, using(crate::proofs::Protects::copied))]
     fn copied(&mut self, page: u32)
-        requires { page < self.old.pages }
+        requires { page < self.old.permissions.pages }
         ensures sizes { SameSizes self.old self.new }
         ensures replay { (past : List Event) (r : ℕ) → IsProtection past self.old
             → IsProtection (Event.Copied r page ∷ past) self.new }
     {
-        self.dirty[page as usize] = false;
+        let _was_dirty = self.dirty.take(page);
     }
 
-    #[tactic(auto, using(crate::proofs::Protects::unseen))]
     fn unseen(&mut self)
         ensures sizes { SameSizes self.old self.new }
         ensures replay { (past : List Event) (e : Event) → IsUnshielded past e
             → IsProtection past self.old → IsProtection (e ∷ past) self.new }
     {}
 
-    #[tactic(auto, using(crate::proofs::Protects::flushed))]
     fn flushed(&mut self)
         ensures sizes { SameSizes self.old self.new }
         ensures replay { (past : List Event) → IsProtection past self.old
             → IsProtection (Event.Flushed ∷ past) self.new }
     {
-        set_each(self.dirty.as_mut_slice(), self.closing.list());
+        set_each(&mut self.dirty, self.closing.list());
         self.closing.clear();
-        self.cached.clear();
+        self.permissions.flush();
     }
 }
 
-/// Sets the flags of these numbers.
+/// Puts these numbers in.
 #[tactic(auto, using(crate::proofs::Protects::set_steps))]
-fn set_each(flags: &mut [bool], list: &[u32])
-    requires { AllUnder (length flags.old) list.now }
-    ensures { flags.new ≡ with_set list.now flags.old }
+fn set_each(set: &mut Bitmap, list: &[u32])
+    requires { AllUnder (length set.old) list.now }
+    ensures { set.new ≡ with_set list.now set.old }
 {
     for at in list {
-        flags[*at as usize] = true;
+        let _was_in = set.set(*at);
     }
 }

@@ -34,7 +34,7 @@ impl Replay {
         let pages = page_count(guest);
         Ok(Replay {
             vcpus: Vcpus::new(alloc, vcpus)?,
-            protection: Protection::new(alloc, vcpus as u32, pages)?,
+            protection: Protection::new(alloc, &guest.slots, vcpus as u32)?,
             running: Running::new(alloc, guest)?,
             entries: Entries::new(alloc, vcpus)?,
             rounds: Rounds::new(guest.settings.threshold),
@@ -67,12 +67,12 @@ impl Replay {
     /// The page of the entry that an event resets.
     fn page_reset(&self, e: &Event) -> Option<u32>
         requires { IsNamed self.now e.now }
-        ensures within { IfSome result (λ page. page < self.now.protection.pages) }
+        ensures within { IfSome result (λ page. page < self.now.protection.permissions.pages) }
         ensures is { (guest : Guest) (past : List Event) → IsReplay guest past self.now
             → result ≡ page_reset e.now past }
     {
         match e {
-            Event::Reset { v, k } => below(self.entries.page(*v, *k), self.protection.pages),
+            Event::Reset { v, k } => below(self.entries.page(*v, *k), self.protection.permissions.pages()),
             _ => None,
         }
     }
