@@ -71,3 +71,5 @@ least_later flags at d lt unset =
 
 pub least_past : (flags : List Bool) (at : ℕ) → length flags ≤ at → least_from at (members flags) ≡ None
 least_past flags at le = first_of_all at (members flags) ∙ ap (λ xs. slice_get xs 0) (all_past flags at le)
+
+pub ruleset least_steps = (least_here, least_later, least_past)

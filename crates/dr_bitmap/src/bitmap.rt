@@ -107,7 +107,7 @@ impl Bitmap {
 }
 
 /// The number of the first flag that is set, from a number on.
-#[tactic(auto, using(crate::proofs::Leasts::least_here, crate::proofs::Leasts::least_later, crate::proofs::Leasts::least_past))]
+#[tactic(auto, using(crate::proofs::Leasts::least_steps))]
 fn first_set(flags: &[bool], from: u32) -> Option<u32>
     requires { length flags.now < 2 ^ 32 }
     ensures is { result ≡ least_from from (members flags.now) }

@@ -102,7 +102,7 @@ impl Protect {
         self.cached.set(cell);
     }
 
-    /// A vCPU has a page cached that may be written.
+    /// A vCPU has a page cached from now on. The page may be written already.
     pub fn fill(&mut self, v: u32, page: u32)
         requires vcpu { v < self.old.vcpus }
         requires page { page < self.old.pages }

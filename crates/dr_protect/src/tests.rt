@@ -3,7 +3,7 @@ ghost use Rattle.dr_types.specs.Validity.{AreSlots};
 ghost use Rattle.dr_types.specs.Pages.{pages_of_slots};
 
 use crate::Protect;
-use dr_types::{Listed, PageList, SlotList, SlotRow};
+use dr_types::{Listed, SlotList, SlotRow};
 use std::alloc::Global;
 use std::test::Fail;
 
@@ -38,55 +38,55 @@ fn two_vcpus(alloc: Global) -> Result<Protect, Fail>
     Ok(Protect::new(alloc, &two_slots(alloc)?, 2)?)
 }
 
-/// The pages that may not be written.
-fn protected_pages(alloc: Global, protect: &Protect) -> Result<PageList, Fail>
+/// These pages may not be written, and all others may be.
+fn protects(protect: &Protect, pages: &[u32]) -> bool
     requires { protect.now.pages ≡ 68 }
 {
-    let mut pages = Listed::new(alloc);
     for page in 0..68 {
-        if !protect.writable(page) {
-            pages.push(page)?;
+        if protect.writable(page) == pages.contains(&page) {
+            return false;
         }
     }
-    Ok(pages)
+    true
 }
 
-/// The pages that a vCPU has cached.
-fn cached_pages(alloc: Global, protect: &Protect, v: u32) -> Result<PageList, Fail>
+/// A vCPU has these pages cached, and no other.
+fn caches(protect: &Protect, v: u32, pages: &[u32]) -> bool
     requires vcpu { v < protect.now.vcpus }
     requires pages { protect.now.pages ≡ 68 }
 {
-    let mut pages = Listed::new(alloc);
     for page in 0..68 {
-        if protect.cached(v, page) {
-            pages.push(page)?;
+        if protect.cached(v, page) != pages.contains(&page) {
+            return false;
         }
     }
-    Ok(pages)
+    true
 }
 
-/// The pages that a mask protects.
-fn masked_pages(alloc: Global, slot: u32, base: u64, mask: u64) -> Result<PageList, Fail> {
-    let mut protect = two_vcpus(alloc)?;
+/// Protects what a mask names. Answers whether these pages, and no others, are protected then.
+fn mask_protects(protect: &mut Protect, slot: u32, base: u64, mask: u64, pages: &[u32]) -> bool
+    requires { protect.old.pages ≡ 68 }
+    ensures { protect.new.pages ≡ 68 }
+{
     protect.protect_mask(slot, base, mask);
-    protected_pages(alloc, &protect)
+    protects(protect, pages)
 }
 
 #[test]
 fn a_mask_protects_the_pages_that_it_names(rt: HostRuntime) -> Result<(), Fail> {
-    let alloc = rt.alloc();
-    assert!(rt; masked_pages(alloc, 7, 2, FIRST_AND_LAST)?.as_slice() == [4, 67].as_slice());
-    assert!(rt; masked_pages(alloc, 5, 0, 2)?.as_slice() == [1].as_slice());
-    assert!(rt; masked_pages(alloc, 7, 0, 0)?.is_empty());
+    let mut protect = two_vcpus(rt.alloc())?;
+    assert!(rt; mask_protects(&mut protect, 7, 0, 0, &[]));
+    assert!(rt; mask_protects(&mut protect, 7, 2, FIRST_AND_LAST, &[4, 67]));
+    assert!(rt; mask_protects(&mut protect, 5, 0, 2, &[1, 4, 67]));
     Ok(())
 }
 
 #[test]
 fn a_mask_passes_over_places_in_no_slot(rt: HostRuntime) -> Result<(), Fail> {
-    let alloc = rt.alloc();
-    assert!(rt; masked_pages(alloc, 7, 3, FIRST_AND_LAST)?.as_slice() == [5].as_slice());
-    assert!(rt; masked_pages(alloc, 6, 0, FIRST_AND_LAST)?.is_empty());
-    assert!(rt; masked_pages(alloc, 7, u64::MAX, u64::MAX)?.is_empty());
+    let mut protect = two_vcpus(rt.alloc())?;
+    assert!(rt; mask_protects(&mut protect, 6, 0, FIRST_AND_LAST, &[]));
+    assert!(rt; mask_protects(&mut protect, 7, u64::MAX, u64::MAX, &[]));
+    assert!(rt; mask_protects(&mut protect, 7, 3, FIRST_AND_LAST, &[5]));
     Ok(())
 }
 
@@ -106,26 +106,22 @@ fn share(protect: &mut Protect)
 
 #[test]
 fn a_flush_takes_each_cached_page_of_both_vcpus(rt: HostRuntime) -> Result<(), Fail> {
-    let alloc = rt.alloc();
-    let mut protect = two_vcpus(alloc)?;
+    let mut protect = two_vcpus(rt.alloc())?;
     share(&mut protect);
-    assert!(rt; cached_pages(alloc, &protect, 0)?.as_slice() == [3].as_slice());
-    assert!(rt; cached_pages(alloc, &protect, 1)?.as_slice() == [3, 67].as_slice());
+    assert!(rt; caches(&protect, 0, &[3]) && caches(&protect, 1, &[3, 67]));
     protect.flush();
-    assert!(rt; cached_pages(alloc, &protect, 0)?.is_empty());
-    assert!(rt; cached_pages(alloc, &protect, 1)?.is_empty());
-    assert!(rt; protected_pages(alloc, &protect)?.is_empty());
+    assert!(rt; caches(&protect, 0, &[]) && caches(&protect, 1, &[]));
+    assert!(rt; protects(&protect, &[]));
     Ok(())
 }
 
 #[test]
 fn where_logging_starts_nothing_may_be_written(rt: HostRuntime) -> Result<(), Fail> {
-    let alloc = rt.alloc();
-    let mut protect = two_vcpus(alloc)?;
+    let mut protect = two_vcpus(rt.alloc())?;
     share(&mut protect);
     protect.start();
-    assert_eq!(rt; protected_pages(alloc, &protect)?.len(), 68);
-    assert!(rt; cached_pages(alloc, &protect, 1)?.is_empty());
+    assert!(rt; !protect.writable(0) && !protect.writable(67));
+    assert!(rt; caches(&protect, 0, &[]) && caches(&protect, 1, &[]));
     Ok(())
 }
 
@@ -134,8 +130,7 @@ fn a_protected_page_stays_cached(rt: HostRuntime) -> Result<(), Fail> {
     let mut protect = two_vcpus(rt.alloc())?;
     protect.open_page(1, 5);
     protect.protect_page(5);
-    assert!(rt; !protect.writable(5));
-    assert!(rt; protect.cached(1, 5));
-    assert!(rt; !protect.cached(0, 5));
+    assert!(rt; protects(&protect, &[5]));
+    assert!(rt; caches(&protect, 0, &[]) && caches(&protect, 1, &[5]));
     Ok(())
 }
