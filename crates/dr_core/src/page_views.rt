@@ -19,7 +19,7 @@ impl Core {
     pub fn pages(&self) -> u32
         ensures { result ≡ page_count self.now.guest }
     {
-        self.replay.protection.pages
+        self.replay.protection.permissions.pages()
     }
 
     /// A page may be written.
@@ -27,7 +27,7 @@ impl Core {
         requires { page < page_count self.now.guest }
         ensures { result ≡ writable page self.now.past }
     {
-        !self.replay.rounds.started || self.replay.protection.is_opened(page)
+        self.replay.protection.is_writable(page)
     }
 
     /// A vCPU has its permission to write a page.

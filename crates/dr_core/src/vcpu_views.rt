@@ -21,7 +21,7 @@ impl Core {
     pub fn vcpus(&self) -> u32
         ensures { result ≡ vcpu_count self.now.guest }
     {
-        self.replay.protection.vcpus
+        self.replay.protection.permissions.vcpus()
     }
 
     fn row(&self, v: u32) -> Vcpu

@@ -33,7 +33,9 @@ impl PageStore {
     /// So many pages of zeros, none of which has memory of its own.
     pub fn new(alloc: Global, count: u32) -> Result<PageStore, Memory>
         ensures { IfOk result (λ it. it ≡ record {
-            pages = replicate count (filled 0); rooms = replicate count false }) }
+          pages = replicate count (filled 0);
+          rooms = replicate count false;
+        }) }
     {
         let mut pages = Vec::with_capacity(alloc, count as usize)?;
         for page in 0..count {

@@ -2,7 +2,6 @@ pub mod Tests
 pub mod Numbers
 pub mod Rowwise
 pub mod Sets
-pub mod Found
 pub mod Copying
 pub mod Sized
 pub mod Groups

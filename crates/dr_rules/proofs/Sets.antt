@@ -1,89 +1,83 @@
 -- The numbers of the flags that are set.
-use Rattle.std.proofs.Common.{◌≡◌, ℕ, zero, suc, ◌+◌, ◌<◌, ◌≤◌, Bool, true, false, cond, List, [], ◌∷◌, ◌++◌, length, get_or, drop, refl, ap, sym, ◌∙◌, arith, add-one, inl, inr}
-use Rattle.std.specs.Prelude.{◌==◌, ◌&&◌}
+use Rattle.std.proofs.Common.{◌≡◌, ℕ, zero, suc, ◌+◌, ◌<◌, ◌≤◌, Bool, true, false, cond, List, [], ◌∷◌, ◌++◌, length, get_or, drop, Option, Some, None, refl, ap, sym, ◌∙◌, arith, add-one, true≢false}
+use Rattle.std.specs.Prelude.{◌&&◌, not, is_some, is_none}
 use Rattle.std.specs.List.{filter}
 use Rattle.std.proofs.Math.Seq.{drop-cons}
 use Rattle.std.proofs.Math.ListN.{drop_of_length-le}
-use Rattle.std.proofs.lemmas.Bool.{eq-eqb, ne_eqb}
-use Rattle.std.proofs.lemmas.Bool.Decides.{eqb_tells}
+use Rattle.std.proofs.lemmas.Bool.{eq-eqb, ne_eqb, eqb-true}
 use Rattle.std.proofs.lemmas.List.Elements.{filter-append}
 use Rattle.dr_types.specs.declared.guest.Guest.{Guest}
 use Rattle.dr_types.specs.Pages.{page_count}
 use Rattle.dr_history.specs.declared.event.Event.{Event}
 use Rattle.dr_history.specs.Dirty.{dirty, dirty_pages}
-use Rattle.dr_history.specs.Lookback.{below}
+use Rattle.dr_history.specs.Lookback.{below, is_number}
 use Rattle.dr_history.specs.Rules.{same_numbers}
 use Rattle.dr_state.specs.Rows.{table}
 use Rattle.dr_state.proofs.Tables.{table_more, length-table}
-use Rattle.dr_rules.specs.Tests.{set_from}
+use Rattle.dr_bitmap.specs.Members.{members, least_from}
+use Rattle.dr_bitmap.proofs.Counts.{members_last}
+use Rattle.dr_bitmap.proofs.Leasts.{all_from}
+use Rattle.dr_bitmap.proofs.Walks.{all_from_start, none_left, next}
 
-pub last_set : (k : ℕ) (xs : List Bool) (b : Bool) → set_from k (xs ++ b ∷ []) ≡ set_from k xs ++ cond b ((k + length xs) ∷ []) []
-last_set k [] true = ap (λ n. n ∷ []) (omega arith)
-last_set k [] false = refl
-last_set k (true ∷ xs) b =
-    let place : k + 1 + length xs ≡ k + suc (length xs) = omega arith in
-    ap (λ ns. k ∷ ns) (last_set (k + 1) xs b) ∙ ap (λ n. k ∷ (set_from (k + 1) xs ++ cond b (n ∷ []) [])) place
-last_set k (false ∷ xs) b =
-    let place : k + 1 + length xs ≡ k + suc (length xs) = omega arith in
-    last_set (k + 1) xs b ∙ ap (λ n. set_from (k + 1) xs ++ cond b (n ∷ []) []) place
+found : (x : ℕ) (o : Option ℕ) → is_number x o ≡ true → o ≡ Some x
+found x None h = absurd (true≢false (sym h))
+found x (Some q) h = ap Some (eqb-true q x h)
 
-set_table : (f : ℕ → Bool) (n : ℕ) → set_from 0 (table f n) ≡ filter f (below n)
+set_table : (f : ℕ → Bool) (n : ℕ) → members (table f n) ≡ filter f (below n)
 set_table f zero = refl
 set_table f (suc n) =
     let place : 0 + length (table f n) ≡ n = omega (arith, length-table f n) in
-    ap (set_from 0) (table_more f n) ∙ last_set 0 (table f n) (f n)
+    ap members (table_more f n) ∙ members_last 0 (table f n) (f n)
     ∙ ap (λ ns. ns ++ cond (f n) ((0 + length (table f n)) ∷ []) []) (set_table f n)
     ∙ ap (λ m. filter f (below n) ++ cond (f n) (m ∷ []) []) place
     ∙ sym (filter-append f (below n) (n ∷ []))
 
-pub dirty_set : (guest : Guest) (past : List Event) (flags : List Bool) (n : ℕ) → n ≡ page_count guest → flags ≡ table (λ page. dirty page past) n → set_from 0 flags ≡ dirty_pages guest past
+pub dirty_set : (guest : Guest) (past : List Event) (flags : List Bool) (n : ℕ) → n ≡ page_count guest → flags ≡ table (λ page. dirty page past) n → members flags ≡ dirty_pages guest past
 dirty_set guest past flags n size is =
-    ap (set_from 0) is ∙ set_table (λ page. dirty page past) n ∙ ap (λ k. filter (λ page. dirty page past) (below k)) size
+    ap members is ∙ set_table (λ page. dirty page past) n ∙ ap (λ k. filter (λ page. dirty page past) (below k)) size
 
--- the flags from a number on
-from_set : (flags : List Bool) (q : ℕ) (d : Bool) → q < length flags → drop q flags ≡ get_or flags q d ∷ drop (q + 1) flags
-from_set flags q d lt = drop-cons flags q d lt ∙ ap (λ k. get_or flags q d ∷ drop k flags) (sym (add-one q))
+-- a page that comes next
+pub hits : (flags : List Bool) (pages : List ℕ) (at from d : ℕ) (all : Bool) → at < length pages → is_number (get_or pages at d) (least_from from (members flags)) ≡ true
+    → same_numbers (drop at pages) (all_from from (members flags)) ≡ all → same_numbers (drop (at + 1) pages) (all_from (get_or pages at d + 1) (members flags)) ≡ all
+hits flags pages at from d all lt comes h =
+    let x : ℕ = get_or pages at d in
+    let later : List ℕ = all_from (x + 1) (members flags) in
+    sym (ap (λ ps. same_numbers ps (all_from from (members flags))) (drop-cons pages at d lt)
+    ∙ ap (λ ms. same_numbers (x ∷ drop (suc at) pages) ms) (next from x flags (found x (least_from from (members flags)) comes)).walk
+    ∙ ap (λ b. b && same_numbers (drop (suc at) pages) later) (eq-eqb x x refl)
+    ∙ ap (λ k. same_numbers (drop k pages) later) (sym (add-one at))) ∙ h
 
-pub passes : (flags : List Bool) (q : ℕ) (d : Bool) (pages : List ℕ) (all : Bool) → q < length flags → get_or flags q d ≡ false → same_numbers pages (set_from q (drop q flags)) ≡ all → same_numbers pages (set_from (q + 1) (drop (q + 1) flags)) ≡ all
-passes flags q d pages all lt unset h =
-    sym (ap (λ xs. same_numbers pages (set_from q xs)) (from_set flags q d lt) ∙ ap (λ b. same_numbers pages (cond b (q ∷ set_from (q + 1) (drop (q + 1) flags)) (set_from (q + 1) (drop (q + 1) flags)))) unset) ∙ h
+-- one that doesn't
+other : (flags : List Bool) (from x : ℕ) (rest : List ℕ) (o : Option ℕ) → least_from from (members flags) ≡ o → is_number x o ≡ false → same_numbers (x ∷ rest) (all_from from (members flags)) ≡ false
+other flags from x rest None is miss = ap (λ ms. same_numbers (x ∷ rest) ms) (none_left from (members flags) is)
+other flags from x rest (Some q) is miss =
+    ap (λ ms. same_numbers (x ∷ rest) ms) (next from q flags is).walk
+    ∙ ap (λ b. b && same_numbers rest (all_from (q + 1) (members flags))) (ne_eqb x q (λ e. true≢false (sym (eq-eqb q x (sym e)) ∙ miss)))
 
-sets : (flags : List Bool) (q : ℕ) (d : Bool) (pages : List ℕ) → q < length flags → get_or flags q d ≡ true → same_numbers pages (set_from q (drop q flags)) ≡ same_numbers pages (q ∷ set_from (q + 1) (drop (q + 1) flags))
-sets flags q d pages lt set =
-    ap (λ xs. same_numbers pages (set_from q xs)) (from_set flags q d lt) ∙ ap (λ b. same_numbers pages (cond b (q ∷ set_from (q + 1) (drop (q + 1) flags)) (set_from (q + 1) (drop (q + 1) flags)))) set
+pub misses : (flags : List Bool) (pages : List ℕ) (at from d : ℕ) (all : Bool) → at < length pages → is_number (get_or pages at d) (least_from from (members flags)) ≡ false
+    → same_numbers (drop at pages) (all_from from (members flags)) ≡ all → false ≡ all
+misses flags pages at from d all lt miss h =
+    sym (ap (λ ps. same_numbers ps (all_from from (members flags))) (drop-cons pages at d lt)
+    ∙ other flags from (get_or pages at d) (drop (suc at) pages) _ refl miss) ∙ h
 
-pub hits : (flags : List Bool) (q next c : ℕ) (d : Bool) (pages : List ℕ) (all : Bool) → q < length flags → get_or flags q d ≡ true → next < length pages → get_or pages next c ≡ q → same_numbers (drop next pages) (set_from q (drop q flags)) ≡ all → same_numbers (drop (next + 1) pages) (set_from (q + 1) (drop (q + 1) flags)) ≡ all
-hits flags q next c d pages all lt set under is h =
-    let rest : List ℕ = set_from (q + 1) (drop (q + 1) flags) in
-    sym (ap (λ ps. same_numbers ps (q ∷ rest)) (drop-cons pages next c under)
-    ∙ ap (λ b. b && same_numbers (drop (suc next) pages) rest) (eq-eqb (get_or pages next c) q is)
-    ∙ ap (λ k. same_numbers (drop k pages) rest) (sym (add-one next)))
-    ∙ sym (sets flags q d (drop next pages) lt set) ∙ h
+-- nothing is left, or something
+left : (flags : List Bool) (from : ℕ) (o : Option ℕ) → least_from from (members flags) ≡ o → same_numbers [] (all_from from (members flags)) ≡ is_none o
+left flags from None is = ap (λ ms. same_numbers [] ms) (none_left from (members flags) is)
+left flags from (Some q) is = ap (λ ms. same_numbers [] ms) (next from q flags is).walk
 
-pub misses : (flags : List Bool) (q next c : ℕ) (d : Bool) (pages : List ℕ) (all : Bool) → q < length flags → get_or flags q d ≡ true → next < length pages → ((get_or pages next c ≡ q) → ⊥) → same_numbers (drop next pages) (set_from q (drop q flags)) ≡ all → false ≡ all
-misses flags q next c d pages all lt set under isnt h =
-    let rest : List ℕ = set_from (q + 1) (drop (q + 1) flags) in
-    sym (ap (λ ps. same_numbers ps (q ∷ rest)) (drop-cons pages next c under)
-    ∙ ap (λ b. b && same_numbers (drop (suc next) pages) rest) (ne_eqb (get_or pages next c) q isnt))
-    ∙ sym (sets flags q d (drop next pages) lt set) ∙ h
+pub finishes : (flags : List Bool) (pages : List ℕ) (at from : ℕ) (all : Bool) → length pages ≤ at
+    → same_numbers (drop at pages) (all_from from (members flags)) ≡ all → is_none (least_from from (members flags)) ≡ all
+finishes flags pages at from all over h =
+    sym (left flags from _ refl) ∙ sym (ap (λ ps. same_numbers ps (all_from from (members flags))) (drop_of_length-le pages over)) ∙ h
 
-pub ends : (flags : List Bool) (q next : ℕ) (d : Bool) (pages : List ℕ) (all : Bool) → q < length flags → get_or flags q d ≡ true → length pages ≤ next → same_numbers (drop next pages) (set_from q (drop q flags)) ≡ all → false ≡ all
-ends flags q next d pages all lt set over h =
-    sym (ap (λ ps. same_numbers ps (q ∷ set_from (q + 1) (drop (q + 1) flags))) (drop_of_length-le pages over))
-    ∙ sym (sets flags q d (drop next pages) lt set) ∙ h
+-- what is_none tells
+pub none_told : (b : Bool) (o : Option ℕ) → not b ≡ is_some o → b ≡ is_none o
+none_told true None h = refl
+none_told true (Some q) h = absurd (true≢false (sym h))
+none_told false None h = absurd (true≢false h)
+none_told false (Some q) h = refl
 
-left_none : (next : ℕ) (pages : List ℕ) → next ≤ length pages → same_numbers (drop next pages) [] ≡ (next == length pages)
-left_none zero [] h = sym (eq-eqb 0 0 refl)
-left_none zero (p ∷ pages) h = sym (ne_eqb 0 (suc (length pages)) (λ e. omega (arith, e)))
-left_none (suc next) [] h = absurd (omega arith)
-left_none (suc next) (p ∷ pages) h = left_none next pages (omega arith) ∙ same_suc next (length pages)
-  where
-    same_suc : (a b : ℕ) → (a == b) ≡ (suc a == suc b)
-    same_suc a b = elim (eqb_tells a b) [
-      | inl s ↦ s.0 ∙ sym (eq-eqb (suc a) (suc b) (ap suc s.1))
-      | inr d ↦ d.0 ∙ sym (ne_eqb (suc a) (suc b) (λ e. d.1 (omega (arith, e))))
-    ]
+pub begins : (pages : List ℕ) (flags : List Bool) → same_numbers pages (all_from 0 (members flags)) ≡ same_numbers pages (members flags)
+begins pages flags = ap (λ ms. same_numbers pages ms) (all_from_start (members flags))
 
-pub finishes : (flags : List Bool) (q next : ℕ) (pages : List ℕ) (all : Bool) → length flags ≤ q → next ≤ length pages → same_numbers (drop next pages) (set_from q (drop q flags)) ≡ all → (next == length pages) ≡ all
-finishes flags q next pages all over within h =
-    sym (left_none next pages within) ∙ sym (ap (λ xs. same_numbers (drop next pages) (set_from q xs)) (drop_of_length-le flags over)) ∙ h
+pub ruleset member_steps = (hits, misses, finishes, begins)

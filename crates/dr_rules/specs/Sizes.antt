@@ -8,5 +8,5 @@ use Rattle.dr_state.specs.declared.replay.Replay.{Replay}
 pub record IsSized (guest : Guest) (it : Replay) : Type 0 where
   pub few_pages : page_count guest < 2 ^ 32
   pub few_vcpus : length guest.scripts < 2 ^ 32
-  pub shield : it.protection.pages ≡ page_count guest
+  pub shield : it.protection.permissions.pages ≡ page_count guest
   pub memory : length it.memory.pages ≡ page_count guest

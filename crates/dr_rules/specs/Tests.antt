@@ -1,16 +1,11 @@
 -- Tests of the state.
-use Rattle.std.specs.Prelude.{ℕ, Bool, false, ◌+◌, ◌||◌, nat_le, if◌then◌else◌, List, [], ◌∷◌, slice_index_or}
+use Rattle.std.specs.Prelude.{ℕ, Bool, false, ◌||◌, nat_le, List, slice_index_or}
 use Rattle.dr_state.specs.declared.ring.Entry.{Entry}
 use Rattle.dr_state.specs.declared.vcpus.Vcpu.{Vcpu}
 
 -- the entry of this number is deposited
 abbrev pub deposited_at : List Entry → ℕ → Bool
 deposited_at entries k = (slice_index_or entries k (record { page = 0; deposited = false })).deposited
-
--- the numbers of the flags that are set, counted from n
-abbrev pub set_from : ℕ → List Bool → List ℕ
-set_from n [] = []
-set_from n (flag ∷ flags) = if flag then n ∷ set_from (n + 1) flags else set_from (n + 1) flags
 
 -- a vCPU has executed enough, or has halted
 abbrev pub row_paced : ℕ → Vcpu → Bool

@@ -1,33 +1,45 @@
-ghost use Rattle.std.specs.Prelude.{◌≡◌, ◌<◌, ◌≤◌, ◌^◌, List, All, IfOk, length};
+ghost use Rattle.std.specs.Prelude.{◌≡◌, ◌<◌, ◌≤◌, ◌^◌, true, List, All, IfOk, length};
 ghost use Rattle.dr_types.specs.Pages.{page_count};
 ghost use Rattle.dr_history.specs.declared.event.Event.{Event};
 ghost use Rattle.dr_history.specs.Dirty.{dirty_pages};
 ghost use Rattle.dr_history.specs.Rules.{same_numbers, answers_covered, answers_dirty};
 ghost use Rattle.dr_state.specs.Whole.{IsReplay};
 ghost use Rattle.dr_rules.specs.Sizes.{IsSized};
-ghost use Rattle.dr_rules.specs.Tests.{set_from};
+ghost use Rattle.dr_bitmap.specs.Members.{members, least_from};
+ghost use Rattle.dr_history.specs.Lookback.{is_number};
 
 use crate::paces::{all_covered, some_closing, some_kicked};
+use dr_bitmap::Bitmap;
 use dr_history::Event;
 use dr_state::Replay;
 use dr_types::{Guest, Listed, Memory, PageList};
 use std::alloc::Global;
 
-/// These are the numbers of the flags that are set, rising.
-fn are_set(pages: &[u32], flags: &[bool]) -> bool
-    ensures { result ≡ same_numbers pages.now (set_from 0 flags.now) }
+/// A number is the least member from another on.
+fn comes_next(set: &Bitmap, from: u32, page: u32) -> bool
+    ensures is { result ≡ is_number page (least_from from (members set.now)) }
+    ensures within { result ≡ true → page < length set.now }
 {
-    let mut next = 0;
-    for q in 0..flags.len() {
-        if flags[q] {
-            if next < pages.len() && pages[next] as usize == q {
-                next += 1;
-            } else {
-                return false;
-            }
-        }
+    match set.next_from(from) {
+        Some(member) => member == page,
+        None => false,
     }
-    next == pages.len()
+}
+
+/// These are the members, rising.
+#[tactic(auto, using(crate::proofs::Sets::member_steps))]
+fn are_members(pages: &[u32], set: &Bitmap) -> bool
+    ensures { result ≡ same_numbers pages.now (members set.now) }
+{
+    let _len = set.len();
+    let mut from = 0;
+    for at in 0..pages.len() {
+        if !comes_next(set, from, pages[at]) {
+            return false;
+        }
+        from = pages[at] + 1;
+    }
+    set.next_from(from).is_none()
 }
 
 /// These are the dirty pages, rising.
@@ -35,20 +47,20 @@ fn are_dirty(guest: &Guest, replay: &Replay, pages: &[u32]) -> bool
     ensures { (past : List Event) → IsReplay guest.now past replay.now
         → result ≡ same_numbers pages.now (dirty_pages guest.now past) }
 {
-    are_set(pages, replay.protection.dirty.as_slice())
+    are_members(pages, &replay.protection.dirty)
 }
 
-/// The numbers of the flags that are set, rising.
-#[tactic(auto, using(crate::proofs::Found::set_more, crate::proofs::Found::set_whole))]
-fn set_numbers(alloc: Global, flags: &[bool]) -> Result<PageList, Memory>
-    requires { length flags.now < 2 ^ 32 }
-    ensures { IfOk result (λ pages. pages ≡ set_from 0 flags.now) }
+/// The members, rising.
+#[tactic(auto, using(dr_bitmap::proofs::Walks::walk_steps))]
+fn member_list(alloc: Global, set: &Bitmap) -> Result<PageList, Memory>
+    ensures { IfOk result (λ pages. pages ≡ members set.now) }
 {
+    let _len = set.len();
     let mut pages = Listed::new(alloc);
-    for page in 0..flags.len() {
-        if flags[page] {
-            pages.push(page as u32)?;
-        }
+    let mut from = 0;
+    while let Some(page) = set.next_from(from) {
+        pages.push(page)?;
+        from = page + 1;
     }
     Ok(pages)
 }
@@ -61,7 +73,7 @@ pub fn dirty_numbers(guest: &Guest, replay: &Replay, alloc: Global) -> Result<Pa
     ensures small { IfOk result (λ pages. All (λ page. page < 2 ^ 32) pages) }
     ensures few { IfOk result (λ pages. length pages ≤ page_count guest.now) }
 {
-    set_numbers(alloc, replay.protection.dirty.as_slice())
+    member_list(alloc, &replay.protection.dirty)
 }
 
 /// Rule 20: an answer comes when all that was opened before it was asked is reset and flushed.

@@ -32,7 +32,7 @@ pub fn broken(guest: &Guest, replay: &Replay, events: &[Event], e: &Event) -> Op
     if !write_follows(guest, events, e) {
         return Some(1);
     }
-    if !names_exist(guest, replay.protection.pages, events, e) {
+    if !names_exist(guest, replay.protection.permissions.pages(), events, e) {
         return Some(2);
     }
     broken_of_named(guest, replay, events, e)

@@ -33,9 +33,7 @@ pub fn reads_memory(guest: &Guest, replay: &Replay, e: &Event) -> bool
 {
     match e {
         Event::Read { addr, value, .. } => match page_of_address(guest, *addr) {
-            Some(page) => {
-                *value == replay.load(page, (*addr % 4096) as u32)
-            }
+            Some(page) => { *value == replay.load(page, (*addr % 4096) as u32) }
             None => false,
         },
         _ => true,

@@ -13,8 +13,8 @@ use dr_state::{Replay, Vcpu};
 use dr_types::{Guest, Why};
 
 fn is_cached_for(guest: &Guest, replay: &Replay, v: u32, page: Option<u32>) -> bool
-    requires vcpu { v < replay.now.protection.vcpus }
-    requires page { IfSome page (λ page. page < replay.now.protection.pages) }
+    requires vcpu { v < replay.now.protection.permissions.vcpus }
+    requires page { IfSome page (λ page. page < replay.now.protection.permissions.pages) }
     ensures { (past : List Event) → IsReplay guest.now past replay.now
         → result ≡ is_cached_for v past page }
 {
@@ -29,7 +29,7 @@ fn is_cached_for(guest: &Guest, replay: &Replay, v: u32, page: Option<u32>) -> b
 pub fn write_is_cached(guest: &Guest, replay: &Replay, e: &Event) -> bool
     requires pages { page_count guest.now < 2 ^ 32 }
     requires named { IsNamed replay.now e.now }
-    requires whole { replay.now.protection.pages ≡ page_count guest.now }
+    requires whole { replay.now.protection.permissions.pages ≡ page_count guest.now }
     ensures { (past : List Event) → IsReplay guest.now past replay.now
         → result ≡ write_is_cached guest.now past e.now }
 {
@@ -55,10 +55,10 @@ pub fn opens_protected(guest: &Guest, replay: &Replay, e: &Event) -> bool
     match e {
         Event::Opened { v, k, page } => {
             let started = replay.rounds.started;
-            let opened = replay.protection.is_opened(*page);
+            let writable = replay.protection.is_writable(*page);
             let cached = replay.protection.is_cached(*v, *page);
             let row = replay.vcpus.row(*v);
-            started && !(!started || opened) && !cached && *k == row.opens
+            started && !writable && !cached && *k == row.opens
         }
         _ => true,
     }
@@ -74,9 +74,9 @@ pub fn fills_writable(guest: &Guest, replay: &Replay, e: &Event) -> bool
     match e {
         Event::Filled { v, page } => {
             let started = replay.rounds.started;
-            let opened = replay.protection.is_opened(*page);
+            let writable = replay.protection.is_writable(*page);
             let cached = replay.protection.is_cached(*v, *page);
-            started && (!started || opened) && !cached
+            started && writable && !cached
         }
         _ => true,
     }

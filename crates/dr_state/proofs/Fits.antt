@@ -122,8 +122,8 @@ named guest past e it h n =
       vcpus = at (length it.vcpus) (ap length h.are_vcpus ∙ length-rows (vcpu_count guest) past);
       readers = at it.running.readers.len (it.running.readers.ok.0 ∙ ap length h.is_running.are_rests ∙ length-table (rest_of guest past) (vcpu_count guest));
       rows = at it.entries.rows.len (it.entries.rows.ok.0 ∙ rows_sized guest past it h);
-      shield = at it.protection.vcpus h.shield_vcpus;
-      pages = on it.protection.pages h.shield_pages;
+      shield = at it.protection.permissions.vcpus h.shield_vcpus;
+      pages = on it.protection.permissions.pages h.shield_pages;
       memory = on (length it.memory.pages) (memory_sized guest past it h);
       held = at it.throttles.list.len (it.throttles.list.ok.0 ∙ h.are_throttles.sized);
     }

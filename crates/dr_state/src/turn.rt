@@ -72,7 +72,10 @@ impl Replay {
             → result ≡ page_reset e.now past }
     {
         match e {
-            Event::Reset { v, k } => below(self.entries.page(*v, *k), self.protection.permissions.pages()),
+            Event::Reset { v, k } => below(
+                self.entries.page(*v, *k),
+                self.protection.permissions.pages(),
+            ),
             _ => None,
         }
     }

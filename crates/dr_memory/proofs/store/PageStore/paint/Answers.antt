@@ -9,11 +9,11 @@ use Rattle.dr_memory.proofs.store.PageStore.paint.Goals.{in-Some, in_default}
 
 pub returns : goal.returns
 returns c = elim c.match-index_mut.branch [
-    in-Some w ↦
-        ap (λ (it : Inside). shown it.pages.items) w.self-inside-is
-        ∙ ap (λ (x : List ℕ). shown (set c.self.inside.pages.items c.args.page (Some x))) w.fill.ensures
-        ∙ rewritten c.self.inside.pages.items c.args.page _ _ c.index_mut.result.now c.args.self.now
-        c.self.view_is (sym c.index_mut.ensures.value ∙ w.in-Some.is)
-    | in_default w ↦ absurd (roomless c.self.inside.pages.items c.args.page c.index_mut.result.now c.args.self.now
-        c.self.view_is c.requires.page c.requires.room (sym c.index_mut.ensures.value ∙ w.in_default.is))
-    ]
+  | in-Some w ↦
+      ap (λ (it : Inside). shown it.pages.items) w.self-inside-is
+      ∙ ap (λ (x : List ℕ). shown (set c.self.inside.pages.items c.args.page (Some x))) w.fill.ensures
+      ∙ rewritten c.self.inside.pages.items c.args.page _ _ c.index_mut.result.now c.args.self.now
+      c.self.view_is (sym c.index_mut.ensures.value ∙ w.in-Some.is)
+  | in_default w ↦ absurd (roomless c.self.inside.pages.items c.args.page c.index_mut.result.now c.args.self.now
+      c.self.view_is c.requires.page c.requires.room (sym c.index_mut.ensures.value ∙ w.in_default.is))
+]
