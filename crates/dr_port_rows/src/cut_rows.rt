@@ -1,7 +1,7 @@
 //! Runs of the smallest guest that end early, at a put or a read that fails.
 
 use crate::runs::{guest_file, journal_of, lengths, report_of, source, step, step_on};
-use dr_io::Port;
+use dr_io::{FixedClock, Port};
 use dr_types::Status;
 use std::alloc::{AllocError, Global};
 use std::test::Fail;
@@ -64,7 +64,7 @@ fn leaves_first_parts(rt: HostRuntime) -> Result<(), Fail> {
 fn is_unread(alloc: Global, read: u64) -> Result<bool, AllocError> {
     let file = guest_file(alloc, "")?;
     let mut source = source(alloc, &file, true, &[read])?;
-    let end = step(alloc, &mut source, &[], 0)?;
+    let end = step(alloc, &mut source, &[], &FixedClock { now: 0 })?;
     Ok(end.status == Some(Status::Source) && lengths(&end.out) == [0, 0, 0, 0])
 }
 

@@ -1,14 +1,23 @@
 //! The command `step` over a file in memory, and what small guests leave.
 
-use dr_io::{ByteSource, FixedClock, Port, PortBook};
+use dr_io::{ByteSource, Clock, FixedClock, Port, PortBook};
 use dr_plain::{PlainEnd, plain_main};
 use dr_rows::SETTINGS;
 use dr_types::{Listed, NumberList};
 use std::alloc::{AllocError, Global};
 
+/// The parts, one behind the other.
+pub fn joined(alloc: Global, parts: &[&str]) -> Result<String, AllocError> {
+    let mut text = String::new(alloc);
+    for part in parts {
+        text.push_str(part)?;
+    }
+    Ok(text)
+}
+
 /// The smallest guest, with these ops before its halt.
 pub fn guest_file(alloc: Global, ops: &str) -> Result<String, AllocError> {
-    format!(in alloc; "{SETTINGS}slot 0 0 1\nvcpu\n{ops}halt\n")
+    joined(alloc, &[SETTINGS, "slot 0 0 1\nvcpu\n", ops, "halt\n"])
 }
 
 /// The numbers as a list.
@@ -29,21 +38,20 @@ pub fn source(
 }
 
 /// The words of the command.
-pub fn step_word(alloc: Global) -> Result<Vec<String>, AllocError> {
+fn step_word(alloc: Global) -> Result<Vec<String>, AllocError> {
     Ok(vec![in alloc; String::from_str(alloc, "step")?]?)
 }
 
 /// Runs `step` on a source, with the puts of these numbers failing.
-pub fn step(
+pub fn step<C: Clock>(
     alloc: Global,
     source: &mut ByteSource,
     puts: &[u64],
-    now: u64,
+    clock: &C,
 ) -> Result<PlainEnd<PortBook>, AllocError> {
     let out = PortBook::new(alloc, numbers(alloc, puts)?);
     let words = step_word(alloc)?;
-    let clock = FixedClock { now };
-    Ok(plain_main(alloc, words.as_slice(), source, out, &clock))
+    Ok(plain_main(alloc, words.as_slice(), source, out, clock))
 }
 
 /// Runs `step` on a file that comes in large pieces, with the puts of these numbers failing.
@@ -54,7 +62,7 @@ pub fn step_on(
     now: u64,
 ) -> Result<PlainEnd<PortBook>, AllocError> {
     let mut source = source(alloc, file, false, &[])?;
-    step(alloc, &mut source, puts, now)
+    step(alloc, &mut source, puts, &FixedClock { now })
 }
 
 /// How long stream, image, report and journal are.
@@ -67,25 +75,35 @@ pub fn lengths(out: &PortBook) -> [usize; 4] {
     ]
 }
 
+/// A line of the report on a round with so many pages, and the line on its vCPU.
+fn round_of(alloc: Global, round: u32, pages: u32, now: u64) -> Result<String, AllocError> {
+    let share = "  vcpu 0 entries 0 rate 0 throttle 0\n";
+    format!(in alloc; "round {round} dirty {pages} copied {pages} at {now}\n{share}")
+}
+
 /// The report of a guest of one page and one vCPU that executed so many ops.
 pub fn report_of(alloc: Global, now: u64, ops: u32) -> Result<String, AllocError> {
-    let share = "  vcpu 0 entries 0 rate 0 throttle 0\n";
-    let one = format!(in alloc; "round 1 dirty 1 copied 1 at {now}\n{share}")?;
-    let two = format!(in alloc; "round 2 dirty 0 copied 0 at {now}\n{share}")?;
-    let three = format!(in alloc; "round 3 dirty 0 copied 0 at {now}\n{share}")?;
-    let head = "guest pages 1 vcpus 1 ring 8 soft 6\n";
-    format!(in alloc; "{head}{one}{two}{three}vcpu 0 ops {ops} full 0 kicked 0\nswitched\n")
+    let mut report = joined(alloc, &["guest pages 1 vcpus 1 ring 8 soft 6\n"])?;
+    for (round, pages) in [(1, 1), (2, 0), (3, 0)] {
+        report.push_str(&round_of(alloc, round, pages, now)?)?;
+    }
+    let end = format!(in alloc; "vcpu 0 ops {ops} full 0 kicked 0\n")?;
+    report.push_str(&end)?;
+    report.push_str("switched\n")?;
+    Ok(report)
 }
 
-/// The events from the start of logging on, at this time.
-fn rounds_of(alloc: Global, now: u64) -> Result<String, AllocError> {
-    let first = format!(in alloc; "start {now}\nask 1\nsync 1 {now} 1 0\ncopy 1 0\n")?;
-    let rest = format!(in alloc; "ask 2\nsync 2 {now} 0\nstop\nask 3\nsync 3 {now} 0\nswitched\n")?;
-    format!(in alloc; "{first}{rest}")
-}
-
-/// The journal of a guest file in its canonical text, and of these events of its ops.
+/// The journal of a guest file in its canonical text, and of these events of its ops, where the clock
+/// reads this time.
 pub fn journal_of(alloc: Global, file: &str, events: &str, now: u64) -> Result<String, AllocError> {
-    let rounds = rounds_of(alloc, now)?;
-    format!(in alloc; "{file}journal\n{events}x 0 halted\n{rounds}end\n")
+    let now = &format!(in alloc; "{now}")?;
+    let ops = [file, "journal\n", events, "x 0 halted\n"];
+    let first = ["start ", now, "\nask 1\nsync 1 ", now, " 1 0\ncopy 1 0\n"];
+    let second = ["ask 2\nsync 2 ", now, " 0\nstop\n"];
+    let last = ["ask 3\nsync 3 ", now, " 0\nswitched\nend\n"];
+    let mut journal = joined(alloc, &ops)?;
+    journal.push_str(&joined(alloc, &first)?)?;
+    journal.push_str(&joined(alloc, &second)?)?;
+    journal.push_str(&joined(alloc, &last)?)?;
+    Ok(journal)
 }

@@ -1,7 +1,7 @@
 //! Guests of one page.
 
 use crate::runs::{guest_file, journal_of, report_of, source, step};
-use dr_io::{Port, PortBook};
+use dr_io::{FixedClock, Port, PortBook};
 use dr_types::Status;
 use std::alloc::{AllocError, Global};
 use std::test::Fail;
@@ -65,8 +65,12 @@ fn leaves(alloc: Global, row: &Row, file: &str, out: &PortBook) -> Result<bool, 
 fn migrates(alloc: Global, row: &Row) -> Result<bool, AllocError> {
     let file = guest_file(alloc, row.ops)?;
     let mut source = source(alloc, &file, row.bytewise, &[])?;
-    let end = step(alloc, &mut source, &[], row.now)?;
-    Ok(end.status == Some(Status::Done) && leaves(alloc, row, &file, &end.out)?)
+    let end = step(alloc, &mut source, &[], &FixedClock { now: row.now })?;
+    if end.status == Some(Status::Done) {
+        leaves(alloc, row, &file, &end.out)
+    } else {
+        Ok(false)
+    }
 }
 
 #[test]

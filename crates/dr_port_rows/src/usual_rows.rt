@@ -63,20 +63,22 @@ fn has_events(alloc: Global, file: &str, out: &PortBook) -> Result<bool, AllocEr
     Ok(journal.starts_with(file.as_bytes()) && event_lines(alloc, journal)? == 18_161)
 }
 
+/// The ports hold this report, a stream of the header, the rounds 1 and 3, each page once and the
+/// end, and the image.
+fn is_usual(out: &PortBook, report: &[u8]) -> bool {
+    out.bytes(Port::Report) == report
+        && out.bytes(Port::Stream).len() == 25_215_016
+        && holds_counts(out.bytes(Port::Image))
+}
+
 #[test]
 fn migrates_the_usual_guest(rt: HostRuntime) -> Result<(), Fail> {
     let alloc = rt.alloc();
     let file = usual_guest(alloc)?;
     let end = step_on(alloc, &file, &[], 7)?;
-    assert_eq!(rt; end.status, Some(Status::Done));
+    assert!(rt; end.status == Some(Status::Done), "the status");
     let report = usual_report(alloc, 7)?;
-    assert!(rt;
-        end.out.bytes(Port::Report) == report.as_bytes(),
-        "the report"
-    );
-    // The header, the rounds 1 and 3, each page once and the end.
-    assert_eq!(rt; end.out.bytes(Port::Stream).len(), 25_215_016);
-    assert!(rt; holds_counts(end.out.bytes(Port::Image)), "the image");
+    assert!(rt; is_usual(&end.out, report.as_bytes()), "the ports");
     assert!(rt; has_events(alloc, &file, &end.out)?, "the journal");
     Ok(())
 }
