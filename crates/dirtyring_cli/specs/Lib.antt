@@ -1,5 +1,2 @@
-pub mod Words
-pub mod Input
-pub mod Puts
-pub mod Top
 pub mod Codes
+pub mod Kept

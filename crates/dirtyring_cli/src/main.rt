@@ -2,28 +2,22 @@
 //! it.
 #![tactic(auto)]
 
-mod ending;
-mod input;
-mod journal;
-mod plain;
 mod refusal;
 mod source;
-mod words;
+#[cfg(test)]
+mod tests;
 
 use crate::refusal::{Refusal, last_code, print_refusal};
 use crate::source::{InputFile, KeptSource};
-use crate::words::{Paths, read_words};
 use dr_files::{FilePorts, PathOpener, PortPaths};
 use dr_io::{FixedClock, ReadSource};
+use dr_plain::{PlainEnd, plain_main};
 use dr_types::Status;
-pub use plain::{PlainEnd, plain_main};
+use dr_words::{Paths, read_words};
 use std::alloc::AllocError;
 use std::process::ExitCode;
 use std::rt::Files;
 use std::{env, fs, io};
-
-#[cfg(test)]
-mod tests;
 
 /// The words behind the program's name.
 fn command_words(rt: &HostRuntime) -> Result<Vec<String>, io::Error> {

@@ -1,4 +1,6 @@
-ghost use Rattle.std.specs.Prelude.{◌≡◌};
+ghost use Rattle.std.specs.Prelude.{◌≡◌, ◌<◌, Some, [], IfSome, is_some, length};
+ghost use Rattle.dr_io.specs.Reading.{Reads};
+ghost use Rattle.dirtyring_cli.specs.Kept.{IsLonger, MovesBytes};
 
 use dr_io::{ReadTurn, Source};
 use dr_types::{Bytes, Listed};
@@ -29,50 +31,80 @@ impl<R: Read + Drop, F: Read + Drop> Read for InputFile<R, F> {
 }
 
 /// A source that keeps a copy of the bytes that it gave, so that a fault in them can be shown.
+/// Contracts see the source and these bytes.
 #[derive(Drop)]
 pub struct KeptSource<S: Source + Drop> {
     source: S,
-    kept: Bytes,
-    whole: bool,
+    kept: Option<Bytes>,
 }
 
 impl<S: Source + Drop> Model for KeptSource<S> {
-    ghost Value = { S };
+    ghost use Rattle.dirtyring_cli.specs.Kept.{Kept};
 
-    ghost view = { λ k. k.source };
+    ghost Value = { Kept S };
+
+    ghost view = { λ k. record { source = k.source; bytes = k.kept } };
 }
 
 impl<S: Source + Drop> KeptSource<S> {
     /// The source, of which nothing was kept yet.
     pub fn new(alloc: Global, source: S) -> KeptSource<S>
-        ensures { result ≡ source }
+        ensures source { result.source ≡ source }
+        ensures nothing { result.bytes ≡ Some [] }
     {
         KeptSource {
             source,
-            kept: Listed::new(alloc),
-            whole: true,
+            kept: Some(Listed::new(alloc)),
         }
     }
 
-    /// The bytes that it gave; `None` where memory for them was refused.
-    pub fn kept(&self) -> Option<&[u8]> {
-        if self.whole {
-            Some(self.kept.as_slice())
-        } else {
-            None
+    /// The bytes that it gave; `None` where memory for some of them was refused.
+    pub fn kept(&self) -> Option<&[u8]>
+        ensures bytes { IfSome result (λ kept. self.now.bytes ≡ Some kept.now) }
+        ensures refused { is_some result ≡ is_some self.now.bytes }
+    {
+        match &self.kept {
+            Some(kept) => Some(kept.as_slice()),
+            None => None,
         }
+    }
+
+    /// Keeps these bytes behind the others.
+    fn keep(&mut self, more: &[u8])
+        ensures source { self.new.source ≡ self.old.source }
+        ensures longer { IfSome self.new.bytes (IsLonger self.old.bytes more.now) }
+    {
+        self.kept = longer(self.kept.take(), more);
+    }
+}
+
+/// The bytes with these behind them; `None` where memory is refused, or was before.
+fn longer(kept: Option<Bytes>, more: &[u8]) -> Option<Bytes>
+    ensures { IfSome result (IsLonger kept more.now) }
+{
+    let mut kept = kept?;
+    match kept.append(more) {
+        Ok(()) => Some(kept),
+        Err(_) => None,
     }
 }
 
 impl<S: Source + Drop> Source for KeptSource<S> {
-    ghost left = { λ k. S.left k };
+    ghost left = { λ k. S.left k.source };
 
-    ghost faults = { λ k. S.faults k };
+    ghost faults = { λ k. S.faults k.source };
 
-    fn read(&mut self, buf: &mut [u8]) -> ReadTurn {
+    /// Reads from its source, and keeps what came.
+    fn read(&mut self, buf: &mut [u8]) -> ReadTurn
+        requires { 0 < length buf.old }
+        ensures reads { Reads (S.left self.old.source) (S.faults self.old.source) buf.new result
+            (S.left self.new.source) (S.faults self.new.source) }
+        ensures kept { MovesBytes self.old.bytes (S.left self.old.source) self.new.bytes
+            (S.left self.new.source) }
+    {
         let turn = self.source.read(buf);
         if let ReadTurn::Bytes(n) = turn {
-            self.whole = self.whole && self.kept.append(&buf[..n]).is_ok();
+            self.keep(&buf[..n]);
         }
         turn
     }

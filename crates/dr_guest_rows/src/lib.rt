@@ -1,12 +1,9 @@
-//! The grammar of a guest file as tables: texts that are read, and texts that are refused.
+//! The grammar of a guest file as tables: texts that are read, and texts that are refused. Those of
+//! the ops stand in `dr_op_rows`.
 #![tactic(auto)]
 
 #[cfg(test)]
 mod limit_rows;
-#[cfg(test)]
-mod op_rows;
-#[cfg(test)]
-mod rows;
 #[cfg(test)]
 mod section_rows;
 #[cfg(test)]

@@ -1,13 +1,12 @@
 //! The limit of ops: 200,000 in all scripts written out.
 
-use crate::rows::{Kind, refused, stays, with_sections};
+use dr_rows::{Kind, is_refused, stays, with_sections};
 use dr_types::What;
 use std::alloc::{AllocError, Global};
-use std::process::Abort;
 use std::test::Fail;
 
 /// Sections with 200,000 ops.
-const MOST_ROWS: [&str; 8] = [
+const MOST_ROWS: &[&str] = &[
     "vcpu\nrep 199999\na 0\nend\nhalt\n",
     "vcpu\nrep 199998\na 0\nend\na 0\nhalt\n",
     "vcpu\na 0\nrep 99999\na 0\na 0\nend\nhalt\n",
@@ -20,16 +19,16 @@ const MOST_ROWS: [&str; 8] = [
 
 #[test]
 fn reads_most_ops(rt: HostRuntime) -> Result<(), Fail> {
-    for sections in MOST_ROWS {
+    for &sections in MOST_ROWS {
         let text = with_sections(rt.alloc(), sections)?;
-        stays(&rt, rt.alloc(), &text)?;
+        assert!(rt; stays(rt.alloc(), &text), "in {text}");
     }
     Ok(())
 }
 
 /// Sections from line 10 on with more ops, what is wrong with the line that comes to the limit, and
 /// its number.
-const ABOVE_ROWS: [(&str, Kind, u64); 26] = [
+const ABOVE_ROWS: &[(&str, Kind, u64)] = &[
     (
         "vcpu\nrep 200000\na 0\nend\nhalt\n",
         Kind::TooLarge(What::Ops),
@@ -131,9 +130,9 @@ const ABOVE_ROWS: [(&str, Kind, u64); 26] = [
 
 #[test]
 fn refuses_more_ops(rt: HostRuntime) -> Result<(), Fail> {
-    for (sections, kind, no) in ABOVE_ROWS {
+    for &(sections, kind, no) in ABOVE_ROWS {
         let text = with_sections(rt.alloc(), sections)?;
-        refused(&rt, rt.alloc(), &text, kind.at(no))?;
+        assert!(rt; is_refused(rt.alloc(), &text, kind.at(no)), "in {text}");
     }
     Ok(())
 }
@@ -153,58 +152,36 @@ fn long_section(
     Ok(text)
 }
 
-/// So many lines `a 0` are read where they stand.
-fn reads_long(
-    rt: &impl Abort,
-    alloc: Global,
-    before: &str,
-    lines: u64,
-    behind: &str,
-) -> Result<(), Fail> {
-    stays(rt, alloc, &long_section(alloc, before, lines, behind)?)
-}
-
-/// So many lines `a 0` are refused where they stand, with too many ops at this line.
-fn refuses_long(
-    rt: &impl Abort,
-    alloc: Global,
-    before: &str,
-    lines: u64,
-    behind: &str,
-    no: u64,
-) -> Result<(), Fail> {
-    let text = long_section(alloc, before, lines, behind)?;
-    refused(rt, alloc, &text, Kind::TooLarge(What::Ops).at(no))
-}
-
 #[test]
 fn counts_lines(rt: HostRuntime) -> Result<(), Fail> {
-    let alloc = rt.alloc();
-    reads_long(&rt, alloc, "vcpu\nrep 199\n", 1_000, "end\na 1\nhalt\n")?;
-    reads_long(&rt, alloc, "vcpu\nrep 199000\na 1\nend\n", 999, "halt\n")?;
-    refuses_long(&rt, alloc, "vcpu\nrep 200\n", 1_000, "end\nhalt\n", 1_013)?;
-    refuses_long(&rt, alloc, "vcpu\nrep 200\n", 1_001, "end\nhalt\n", 1_013)?;
-    refuses_long(
-        &rt,
-        alloc,
-        "vcpu\nrep 199000\na 1\nend\n",
-        1_001,
-        "halt\n",
-        1_014,
-    )?;
-    // 200,000 times 21,475 is 32,704 modulo 2^32.
-    refuses_long(
-        &rt,
-        alloc,
-        "vcpu\nrep 200000\n",
-        21_475,
-        "end\nhalt\n",
-        21_487,
-    )
+    // What stands before and behind so many lines `a 0`.
+    let rows = [
+        ("vcpu\nrep 199\n", 1_000, "end\na 1\nhalt\n"),
+        ("vcpu\nrep 199000\na 1\nend\n", 999, "halt\n"),
+    ];
+    for (before, lines, behind) in rows {
+        let text = long_section(rt.alloc(), before, lines, behind)?;
+        assert!(rt; stays(rt.alloc(), &text), "{lines} lines");
+    }
+    Ok(())
 }
 
 #[test]
 fn counts_each_line(rt: HostRuntime) -> Result<(), Fail> {
-    // Line 11 is the first op.
-    refuses_long(&rt, rt.alloc(), "vcpu\n", 200_000, "halt\n", 200_011)
+    // What stands before and behind so many lines `a 0`, and the line that comes to the limit.
+    let rows = [
+        ("vcpu\nrep 200\n", 1_000, "end\nhalt\n", 1_013),
+        ("vcpu\nrep 200\n", 1_001, "end\nhalt\n", 1_013),
+        ("vcpu\nrep 199000\na 1\nend\n", 1_001, "halt\n", 1_014),
+        // 200,000 times 21,475 is 32,704 modulo 2^32.
+        ("vcpu\nrep 200000\n", 21_475, "end\nhalt\n", 21_487),
+        // Line 11 is the first op.
+        ("vcpu\n", 200_000, "halt\n", 200_011),
+    ];
+    for (before, lines, behind, no) in rows {
+        let text = long_section(rt.alloc(), before, lines, behind)?;
+        let fault = Kind::TooLarge(What::Ops).at(no);
+        assert!(rt; is_refused(rt.alloc(), &text, fault), "{lines} lines");
+    }
+    Ok(())
 }

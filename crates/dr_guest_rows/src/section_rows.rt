@@ -1,12 +1,12 @@
 //! The vCPU sections, and where a `rep` stands.
 
-use crate::rows::{Kind, SETTINGS, refused, stays, with_sections};
+use dr_rows::{Kind, SETTINGS, is_refused, stays, with_sections};
 use dr_types::What;
 use std::alloc::{AllocError, Global};
 use std::test::Fail;
 
 /// Sections from line 10 on, what is wrong with one of their lines, and its number.
-const FAULT_ROWS: [(&str, Kind, u64); 83] = [
+const FAULT_ROWS: &[(&str, Kind, u64)] = &[
     // Where a `vcpu` line is missing, or is another line.
     ("", Kind::Line, 10),
     ("\n# a\n", Kind::Line, 12),
@@ -119,15 +119,15 @@ const FAULT_ROWS: [(&str, Kind, u64); 83] = [
 
 #[test]
 fn refuses_sections(rt: HostRuntime) -> Result<(), Fail> {
-    for (sections, kind, no) in FAULT_ROWS {
+    for &(sections, kind, no) in FAULT_ROWS {
         let text = with_sections(rt.alloc(), sections)?;
-        refused(&rt, rt.alloc(), &text, kind.at(no))?;
+        assert!(rt; is_refused(rt.alloc(), &text, kind.at(no)), "in {text}");
     }
     Ok(())
 }
 
 /// Sections that are read.
-const READ_ROWS: [&str; 10] = [
+const READ_ROWS: &[&str] = &[
     "vcpu\nhalt\n",
     "vcpu\nhalt\nvcpu\nhalt\n",
     "vcpu\na 1\nhalt\nvcpu\na 2\na 3\nhalt\nvcpu\nhalt\n",
@@ -142,9 +142,9 @@ const READ_ROWS: [&str; 10] = [
 
 #[test]
 fn reads_sections(rt: HostRuntime) -> Result<(), Fail> {
-    for sections in READ_ROWS {
+    for &sections in READ_ROWS {
         let text = with_sections(rt.alloc(), sections)?;
-        stays(&rt, rt.alloc(), &text)?;
+        assert!(rt; stays(rt.alloc(), &text), "in {text}");
     }
     Ok(())
 }
@@ -174,8 +174,9 @@ fn limits_sections(rt: HostRuntime) -> Result<(), Fail> {
     ];
     for (sections, rest, kind, no) in rows {
         let text = behind_sections(rt.alloc(), sections, rest)?;
-        refused(&rt, rt.alloc(), &text, kind.at(no))?;
+        assert!(rt; is_refused(rt.alloc(), &text, kind.at(no)), "in {text}");
     }
     let most = behind_sections(rt.alloc(), 31, "vcpu\na 1\nhalt\n")?;
-    stays(&rt, rt.alloc(), &most)
+    assert!(rt; stays(rt.alloc(), &most), "32 sections");
+    Ok(())
 }

@@ -1,15 +1,12 @@
 //! The lines up to the slots.
 
-ghost use Rattle.std.specs.Prelude.{◌<◌};
-
-use crate::rows::{Kind, refused, stays};
+use dr_rows::{Kind, is_refused, stays};
 use dr_types::FileFault;
 use std::alloc::{AllocError, Global};
-use std::process::Abort;
 use std::test::Fail;
 
 /// The lines of the smallest guest, and their numbers.
-const LINES: [(u64, &str); 11] = [
+const LINES: &[(u64, &str)] = &[
     (1, "dirtyguest 1"),
     (2, "ring 8"),
     (3, "reserve 2"),
@@ -26,7 +23,7 @@ const LINES: [(u64, &str); 11] = [
 /// The smallest guest with this in the place of the line of this number.
 fn with_line(alloc: Global, no: u64, line: &str) -> Result<String, AllocError> {
     let mut text = String::new(alloc);
-    for (at, own) in LINES {
+    for &(at, own) in LINES {
         text.push_str(if at == no { line } else { own })?;
         text.push_str("\n")?;
     }
@@ -36,7 +33,7 @@ fn with_line(alloc: Global, no: u64, line: &str) -> Result<String, AllocError> {
 /// The smallest guest without its line of this number.
 fn without_line(alloc: Global, no: u64) -> Result<String, AllocError> {
     let mut text = String::new(alloc);
-    for (at, own) in LINES {
+    for &(at, own) in LINES {
         if at != no {
             text.push_str(own)?;
             text.push_str("\n")?;
@@ -48,7 +45,7 @@ fn without_line(alloc: Global, no: u64) -> Result<String, AllocError> {
 /// The smallest guest with its line of this number twice.
 fn with_twice(alloc: Global, no: u64) -> Result<String, AllocError> {
     let mut text = String::new(alloc);
-    for (at, own) in LINES {
+    for &(at, own) in LINES {
         text.push_str(own)?;
         text.push_str("\n")?;
         if at == no {
@@ -62,7 +59,7 @@ fn with_twice(alloc: Global, no: u64) -> Result<String, AllocError> {
 /// The first lines of the smallest guest, with this behind them.
 fn first_lines(alloc: Global, lines: u64, behind: &str) -> Result<String, AllocError> {
     let mut text = String::new(alloc);
-    for (at, own) in LINES {
+    for &(at, own) in LINES {
         if at <= lines {
             text.push_str(own)?;
             text.push_str("\n")?;
@@ -73,7 +70,7 @@ fn first_lines(alloc: Global, lines: u64, behind: &str) -> Result<String, AllocE
 }
 
 /// First lines that are refused, and the number of the line that is.
-const MAGIC_ROWS: [(&str, u64); 24] = [
+const MAGIC_ROWS: &[(&str, u64)] = &[
     ("\n", 1),
     ("\n\n\n", 1),
     ("# a\n# b\n", 1),
@@ -102,14 +99,17 @@ const MAGIC_ROWS: [(&str, u64); 24] = [
 
 #[test]
 fn refuses_other_magic(rt: HostRuntime) -> Result<(), Fail> {
-    for (text, no) in MAGIC_ROWS {
-        refused(&rt, rt.alloc(), text, FileFault::Magic { no })?;
+    for &(text, no) in MAGIC_ROWS {
+        assert!(rt;
+            is_refused(rt.alloc(), text, FileFault::Magic { no }),
+            "in {text}"
+        );
     }
     Ok(())
 }
 
 /// A line of this number that may not stand there, or has too few or too many words.
-const LINE_ROWS: [(u64, &str); 44] = [
+const LINE_ROWS: &[(u64, &str)] = &[
     (2, "ring"),
     (2, "ring 8 8"),
     (2, "ring 8 #"),
@@ -158,61 +158,66 @@ const LINE_ROWS: [(u64, &str); 44] = [
 
 #[test]
 fn refuses_setting_lines(rt: HostRuntime) -> Result<(), Fail> {
-    for (no, line) in LINE_ROWS {
+    for &(no, line) in LINE_ROWS {
         let text = with_line(rt.alloc(), no, line)?;
-        refused(&rt, rt.alloc(), &text, FileFault::Line { no })?;
+        assert!(rt;
+            is_refused(rt.alloc(), &text, FileFault::Line { no }),
+            "in {text}"
+        );
     }
     Ok(())
 }
 
-/// The smallest guest without its line of this number: the line behind it may not stand there.
-fn missed(rt: &impl Abort, alloc: Global, no: u64) -> Result<(), Fail> {
-    let text = without_line(alloc, no)?;
-    refused(rt, alloc, &text, FileFault::Line { no })
-}
-
-/// The smallest guest with its line of this number twice: the second may not stand there.
-fn doubled(rt: &impl Abort, alloc: Global, no: u64) -> Result<(), Fail>
-    requires { no < 12 }
-{
-    let text = with_twice(alloc, no)?;
-    let fault = if no == 9 {
-        FileFault::SlotTwice { no: 10 }
-    } else {
-        FileFault::Line { no: no + 1 }
-    };
-    refused(rt, alloc, &text, fault)
-}
-
-/// The smallest guest cut behind so many lines: the fault has the number of lines plus 1.
-fn cut(rt: &impl Abort, alloc: Global, lines: u64) -> Result<(), Fail>
-    requires { lines < 12 }
-{
-    let at_once = first_lines(alloc, lines, "")?;
-    refused(rt, alloc, &at_once, FileFault::Line { no: lines + 1 })?;
-    let comment = first_lines(alloc, lines, " # behind")?;
-    refused(rt, alloc, &comment, FileFault::Line { no: lines + 2 })?;
-    let empty = first_lines(alloc, lines, "\r\n\n \t\n")?;
-    refused(rt, alloc, &empty, FileFault::Line { no: lines + 4 })
+#[test]
+fn misses_lines(rt: HostRuntime) -> Result<(), Fail> {
+    // The line behind the one that is missing may not stand there.
+    for no in 2..12 {
+        let text = without_line(rt.alloc(), no)?;
+        assert!(rt;
+            is_refused(rt.alloc(), &text, FileFault::Line { no }),
+            "in {text}"
+        );
+    }
+    Ok(())
 }
 
 #[test]
-fn misses_lines(rt: HostRuntime) -> Result<(), Fail> {
-    let alloc = rt.alloc();
-    for no in 2..12 {
-        missed(&rt, alloc, no)?;
-    }
+fn doubles_lines(rt: HostRuntime) -> Result<(), Fail> {
+    // The second of the two may not stand there.
     for no in 1..12 {
-        doubled(&rt, alloc, no)?;
+        let text = with_twice(rt.alloc(), no)?;
+        let fault = if no == 9 {
+            FileFault::SlotTwice { no: 10 }
+        } else {
+            FileFault::Line { no: no + 1 }
+        };
+        assert!(rt; is_refused(rt.alloc(), &text, fault), "in {text}");
     }
+    Ok(())
+}
+
+/// The smallest guest cut behind so many lines, with this behind them, is refused at this line.
+fn is_cut(alloc: Global, lines: u64, behind: &str, no: u64) -> bool {
+    match first_lines(alloc, lines, behind) {
+        Ok(text) => is_refused(alloc, &text, FileFault::Line { no }),
+        Err(_) => false,
+    }
+}
+
+#[test]
+fn cuts_lines(rt: HostRuntime) -> Result<(), Fail> {
+    // The fault has the number of lines plus 1.
     for lines in 1..11 {
-        cut(&rt, alloc, lines)?;
+        let at_once = is_cut(rt.alloc(), lines, "", lines + 1);
+        let comment = is_cut(rt.alloc(), lines, " # behind", lines + 2);
+        let empty = is_cut(rt.alloc(), lines, "\r\n\n \t\n", lines + 4);
+        assert!(rt; at_once && comment && empty, "behind {lines} lines");
     }
     Ok(())
 }
 
 /// Words that are no decimal number.
-const NO_NUMBERS: [&str; 18] = [
+const NO_NUMBERS: &[&str] = &[
     "x",
     "-1",
     "+1",
@@ -233,14 +238,16 @@ const NO_NUMBERS: [&str; 18] = [
     "100000000000000000000",
 ];
 
-/// A number of its place that is read, and a word in its place that is no number.
-fn no_number(rt: &impl Abort, alloc: Global, no: u64, name: &str) -> Result<(), Fail> {
-    for word in NO_NUMBERS {
+/// None of the words is taken for the number of this setting on this line.
+fn takes_no_word(alloc: Global, no: u64, name: &str) -> Result<bool, AllocError> {
+    for &word in NO_NUMBERS {
         let line = format!(in alloc; "{name} {word}")?;
         let text = with_line(alloc, no, &line)?;
-        refused(rt, alloc, &text, FileFault::Number { no })?;
+        if !is_refused(alloc, &text, FileFault::Number { no }) {
+            return Ok(false);
+        }
     }
-    Ok(())
+    Ok(true)
 }
 
 #[test]
@@ -255,13 +262,13 @@ fn refuses_words_as_numbers(rt: HostRuntime) -> Result<(), Fail> {
         (8, "quota"),
     ];
     for (no, name) in rows {
-        no_number(&rt, rt.alloc(), no, name)?;
+        assert!(rt; takes_no_word(rt.alloc(), no, name)?, "at {name}");
     }
     Ok(())
 }
 
 /// A setting of this line that is out of its range. Some are in it modulo 2^32.
-const RANGE_ROWS: [(u64, &str); 22] = [
+const RANGE_ROWS: &[(u64, &str)] = &[
     (3, "reserve 0"),
     (3, "reserve 65536"),
     (3, "reserve 4294967298"),
@@ -288,15 +295,18 @@ const RANGE_ROWS: [(u64, &str); 22] = [
 
 #[test]
 fn refuses_settings_out_of_range(rt: HostRuntime) -> Result<(), Fail> {
-    for (no, line) in RANGE_ROWS {
+    for &(no, line) in RANGE_ROWS {
         let text = with_line(rt.alloc(), no, line)?;
-        refused(&rt, rt.alloc(), &text, FileFault::Number { no })?;
+        assert!(rt;
+            is_refused(rt.alloc(), &text, FileFault::Number { no }),
+            "in {text}"
+        );
     }
     Ok(())
 }
 
 /// Sizes of no ring. Some are one modulo 2^32.
-const NO_SIZES: [&str; 18] = [
+const NO_SIZES: &[&str] = &[
     "0",
     "1",
     "2",
@@ -319,16 +329,19 @@ const NO_SIZES: [&str; 18] = [
 
 #[test]
 fn refuses_ring_sizes(rt: HostRuntime) -> Result<(), Fail> {
-    for size in NO_SIZES {
+    for &size in NO_SIZES {
         let line = format!(in rt.alloc(); "ring {size}")?;
         let text = with_line(rt.alloc(), 2, &line)?;
-        refused(&rt, rt.alloc(), &text, FileFault::RingSize { no: 2 })?;
+        assert!(rt;
+            is_refused(rt.alloc(), &text, FileFault::RingSize { no: 2 }),
+            "in {text}"
+        );
     }
     Ok(())
 }
 
 /// Settings that are read.
-const READ_ROWS: [(u64, &str); 25] = [
+const READ_ROWS: &[(u64, &str)] = &[
     (2, "ring 4"),
     (2, "ring 16"),
     (2, "ring 32"),
@@ -358,9 +371,9 @@ const READ_ROWS: [(u64, &str); 25] = [
 
 #[test]
 fn reads_settings(rt: HostRuntime) -> Result<(), Fail> {
-    for (no, line) in READ_ROWS {
+    for &(no, line) in READ_ROWS {
         let text = with_line(rt.alloc(), no, line)?;
-        stays(&rt, rt.alloc(), &text)?;
+        assert!(rt; stays(rt.alloc(), &text), "in {text}");
     }
     Ok(())
 }
@@ -398,16 +411,19 @@ fn leaves_room_in_the_ring(rt: HostRuntime) -> Result<(), Fail> {
     for (ring, reserve, buffer, is_read) in rows {
         let text = with_ring(rt.alloc(), ring, reserve, buffer)?;
         if is_read {
-            stays(&rt, rt.alloc(), &text)?;
+            assert!(rt; stays(rt.alloc(), &text), "in {text}");
         } else {
-            refused(&rt, rt.alloc(), &text, FileFault::Reserve { no: 4 })?;
+            assert!(rt;
+                is_refused(rt.alloc(), &text, FileFault::Reserve { no: 4 }),
+                "in {text}"
+            );
         }
     }
     Ok(())
 }
 
 /// Settings with two faults, and the first.
-const FIRST_ROWS: [(&str, Kind, u64); 20] = [
+const FIRST_ROWS: &[(&str, Kind, u64)] = &[
     // On one line.
     ("ring x 8\n", Kind::Line, 2),
     ("rings x\n", Kind::Line, 2),
@@ -438,9 +454,9 @@ const FIRST_ROWS: [(&str, Kind, u64); 20] = [
 
 #[test]
 fn answers_the_first_fault_of_settings(rt: HostRuntime) -> Result<(), Fail> {
-    for (lines, kind, no) in FIRST_ROWS {
+    for &(lines, kind, no) in FIRST_ROWS {
         let text = format!(in rt.alloc(); "dirtyguest 1\n{lines}")?;
-        refused(&rt, rt.alloc(), &text, kind.at(no))?;
+        assert!(rt; is_refused(rt.alloc(), &text, kind.at(no)), "in {text}");
     }
     Ok(())
 }

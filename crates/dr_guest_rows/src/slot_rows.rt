@@ -1,9 +1,8 @@
 //! The slot lines.
 
-use crate::rows::{Kind, SETTINGS, refused, stays};
+use dr_rows::{Kind, SETTINGS, is_refused, stays};
 use dr_types::{FileFault, What};
 use std::alloc::{AllocError, Global};
-use std::process::Abort;
 use std::test::Fail;
 
 /// A guest with these slots, the first on line 9, and so many rounds.
@@ -13,7 +12,7 @@ fn with_slots(alloc: Global, rounds: u32, slots: &str) -> Result<String, AllocEr
 }
 
 /// Slot lines, what is wrong with one of them, and its number.
-const FAULT_ROWS: [(&str, Kind, u64); 69] = [
+const FAULT_ROWS: &[(&str, Kind, u64)] = &[
     // Where a slot line stands, and how many words it has.
     ("", Kind::Line, 9),
     ("# none\n\n", Kind::Line, 11),
@@ -114,15 +113,15 @@ const FAULT_ROWS: [(&str, Kind, u64); 69] = [
 
 #[test]
 fn refuses_slots(rt: HostRuntime) -> Result<(), Fail> {
-    for (slots, kind, no) in FAULT_ROWS {
+    for &(slots, kind, no) in FAULT_ROWS {
         let text = with_slots(rt.alloc(), 1, slots)?;
-        refused(&rt, rt.alloc(), &text, kind.at(no))?;
+        assert!(rt; is_refused(rt.alloc(), &text, kind.at(no)), "in {text}");
     }
     Ok(())
 }
 
 /// Slot lines, the first slot that another meets, and that other one.
-const OVERLAP_ROWS: [(&str, u32, u32); 17] = [
+const OVERLAP_ROWS: &[(&str, u32, u32)] = &[
     ("slot 0 0 1\nslot 1 0 1\n", 0, 1),
     ("slot 1 0 1\nslot 0 0 1\n", 1, 0),
     ("slot 0 0 4\nslot 1 3 1\n", 0, 1),
@@ -150,15 +149,18 @@ const OVERLAP_ROWS: [(&str, u32, u32); 17] = [
 
 #[test]
 fn refuses_overlaps(rt: HostRuntime) -> Result<(), Fail> {
-    for (slots, a, b) in OVERLAP_ROWS {
+    for &(slots, a, b) in OVERLAP_ROWS {
         let text = with_slots(rt.alloc(), 64, slots)?;
-        refused(&rt, rt.alloc(), &text, FileFault::Overlap { a, b })?;
+        assert!(rt;
+            is_refused(rt.alloc(), &text, FileFault::Overlap { a, b }),
+            "in {text}"
+        );
     }
     Ok(())
 }
 
 /// Slot lines that are read.
-const READ_ROWS: [&str; 17] = [
+const READ_ROWS: &[&str] = &[
     "slot 0 0 1\n",
     "slot 65535 0 1\n",
     "slot 9 1 1\n",
@@ -180,15 +182,15 @@ const READ_ROWS: [&str; 17] = [
 
 #[test]
 fn reads_slots(rt: HostRuntime) -> Result<(), Fail> {
-    for slots in READ_ROWS {
+    for &slots in READ_ROWS {
         let text = with_slots(rt.alloc(), 1, slots)?;
-        stays(&rt, rt.alloc(), &text)?;
+        assert!(rt; stays(rt.alloc(), &text), "in {text}");
     }
     Ok(())
 }
 
 /// Rounds and pages, and whether the pages times one more than the rounds are at most 262,144.
-const COPY_ROWS: [(u32, u32, bool); 14] = [
+const COPY_ROWS: &[(u32, u32, bool)] = &[
     (1, 16384, true),
     (14, 16384, true),
     (15, 16384, true),
@@ -205,39 +207,35 @@ const COPY_ROWS: [(u32, u32, bool); 14] = [
     (64, 16384, false),
 ];
 
-/// So many pages in one slot, and in two, are read or refused.
-fn counts_copies(
-    rt: &impl Abort,
-    alloc: Global,
-    rounds: u32,
-    pages: u32,
-    is_read: bool,
-) -> Result<(), Fail> {
-    let rest = pages.saturating_sub(1);
-    let one = format!(in alloc; "slot 0 0 {pages}\n")?;
-    let two = format!(in alloc; "slot 0 {pages} 1\nslot 1 1 {rest}\n")?;
-    let one = with_slots(alloc, rounds, &one)?;
-    let two = with_slots(alloc, rounds, &two)?;
+/// These slots are read, or refused with too many copies at this line.
+fn counts_copies(alloc: Global, rounds: u32, slots: &str, is_read: bool, no: u64) -> bool {
+    let Ok(text) = with_slots(alloc, rounds, slots) else {
+        return false;
+    };
     if is_read {
-        stays(rt, alloc, &one)?;
-        stays(rt, alloc, &two)?;
+        stays(alloc, &text)
     } else {
-        refused(rt, alloc, &one, Kind::TooLarge(What::Copies).at(9))?;
-        refused(rt, alloc, &two, Kind::TooLarge(What::Copies).at(10))?;
+        is_refused(alloc, &text, Kind::TooLarge(What::Copies).at(no))
     }
-    Ok(())
 }
 
 #[test]
 fn limits_copies(rt: HostRuntime) -> Result<(), Fail> {
-    for (rounds, pages, is_read) in COPY_ROWS {
-        counts_copies(&rt, rt.alloc(), rounds, pages, is_read)?;
+    let alloc = rt.alloc();
+    // So many pages in one slot, and in two.
+    for &(rounds, pages, is_read) in COPY_ROWS {
+        let rest = pages.saturating_sub(1);
+        let one = format!(in alloc; "slot 0 0 {pages}\n")?;
+        let two = format!(in alloc; "slot 0 {pages} 1\nslot 1 1 {rest}\n")?;
+        let is_one = counts_copies(alloc, rounds, &one, is_read, 9);
+        let are_two = counts_copies(alloc, rounds, &two, is_read, 10);
+        assert!(rt; is_one && are_two, "{rounds} rounds, {pages} pages");
     }
     Ok(())
 }
 
 /// Slot lines with several faults under 64 rounds, and the first.
-const LIMIT_ROWS: [(&str, Kind, u64); 6] = [
+const LIMIT_ROWS: &[(&str, Kind, u64)] = &[
     ("slot 0 0 16385\n", Kind::TooLarge(What::Pages), 9),
     (
         "slot 0 0 4033\nslot 0 0 1\n",
@@ -264,9 +262,9 @@ const LIMIT_ROWS: [(&str, Kind, u64); 6] = [
 
 #[test]
 fn limits_pages_before_copies(rt: HostRuntime) -> Result<(), Fail> {
-    for (slots, kind, no) in LIMIT_ROWS {
+    for &(slots, kind, no) in LIMIT_ROWS {
         let text = with_slots(rt.alloc(), 64, slots)?;
-        refused(&rt, rt.alloc(), &text, kind.at(no))?;
+        assert!(rt; is_refused(rt.alloc(), &text, kind.at(no)), "in {text}");
     }
     Ok(())
 }
@@ -298,7 +296,7 @@ fn refuses_a_slot_too_many(rt: HostRuntime) -> Result<(), Fail> {
     ];
     for (line, kind) in rows {
         let text = behind_slots(rt.alloc(), line)?;
-        refused(&rt, rt.alloc(), &text, kind.at(41))?;
+        assert!(rt; is_refused(rt.alloc(), &text, kind.at(41)), "in {text}");
     }
     Ok(())
 }

@@ -1,7 +1,7 @@
 //! Line ends, blanks, skipped lines, and how numbers and bytes may be written.
 
-use crate::rows::{Kind, refused, says, with_sections};
 use dr_guestfile::read_guest;
+use dr_rows::{Kind, is_refused, says, with_sections};
 use std::alloc::{AllocError, Global};
 use std::test::Fail;
 
@@ -10,7 +10,7 @@ const SMALLEST: &str =
     "dirtyguest 1\nring 8\nreserve 2\nbuffer 0\npace 16\nthreshold 0\nrounds 2\nquota 0\nslot 0 0 1\nvcpu\nhalt\n";
 
 /// Texts that say the smallest guest.
-const SAME_ROWS: [&str; 17] = [
+const SAME_ROWS: &[&str] = &[
     // Line ends.
     "dirtyguest 1\r\nring 8\r\nreserve 2\r\nbuffer 0\r\npace 16\r\nthreshold 0\r\nrounds 2\r\nquota 0\r\nslot 0 0 1\r\nvcpu\r\nhalt\r\n",
     "dirtyguest 1\r\nring 8\nreserve 2\r\nbuffer 0\npace 16\nthreshold 0\nrounds 2\nquota 0\nslot 0 0 1\nvcpu\r\nhalt\n",
@@ -36,14 +36,14 @@ const SAME_ROWS: [&str; 17] = [
 
 #[test]
 fn reads_the_same_guest(rt: HostRuntime) -> Result<(), Fail> {
-    for text in SAME_ROWS {
-        says(&rt, rt.alloc(), text, SMALLEST)?;
+    for &text in SAME_ROWS {
+        assert!(rt; says(rt.alloc(), text, SMALLEST), "in {text}");
     }
     Ok(())
 }
 
 /// Texts that are not read as they may seem, what is wrong with a line, and its number.
-const FAULT_ROWS: [(&str, Kind, u64); 20] = [
+const FAULT_ROWS: &[(&str, Kind, u64)] = &[
     // One carriage return is dropped, and only at a line's end.
     ("dirtyguest 1\r\r\n", Kind::Magic, 1),
     ("dirtyguest 1\r \n", Kind::Magic, 1),
@@ -71,8 +71,8 @@ const FAULT_ROWS: [(&str, Kind, u64); 20] = [
 
 #[test]
 fn refuses_what_looks_alike(rt: HostRuntime) -> Result<(), Fail> {
-    for (text, kind, no) in FAULT_ROWS {
-        refused(&rt, rt.alloc(), text, kind.at(no))?;
+    for &(text, kind, no) in FAULT_ROWS {
+        assert!(rt; is_refused(rt.alloc(), text, kind.at(no)), "in {text}");
     }
     Ok(())
 }
@@ -95,7 +95,7 @@ fn reads_bytes(rt: HostRuntime) -> Result<(), Fail> {
 }
 
 /// Ops as they are written, and as they stand in the canonical text.
-const OP_ROWS: [(&str, &str); 23] = [
+const OP_ROWS: &[(&str, &str)] = &[
     ("w 0 AB", "w 0 ab"),
     ("w 0 aB", "w 0 ab"),
     ("w 0 0123456789ABCDEF", "w 0 0123456789abcdef"),
@@ -132,10 +132,10 @@ fn with_ops(alloc: Global, ops: &str) -> Result<String, AllocError> {
 
 #[test]
 fn writes_ops_anew(rt: HostRuntime) -> Result<(), Fail> {
-    for (written, canonical) in OP_ROWS {
+    for &(written, canonical) in OP_ROWS {
         let text = with_ops(rt.alloc(), written)?;
         let wanted = with_ops(rt.alloc(), canonical)?;
-        says(&rt, rt.alloc(), &text, &wanted)?;
+        assert!(rt; says(rt.alloc(), &text, &wanted), "in {text}");
     }
     Ok(())
 }

@@ -1,0 +1,22 @@
+-- The bytes that a source gave, kept beside it.
+use Rattle.std.specs.Prelude.{◌≡◌, ℕ, List, ◌++◌, Option, Some, None}
+
+-- a source, and the bytes that it gave, where memory for all of them was there
+pub record Kept (S : Type 0) : Type 0 where
+  pub source : S
+  pub bytes : Option (List ℕ)
+
+-- the bytes with these behind them
+abbrev pub IsLonger : Option (List ℕ) → List ℕ → List ℕ → Type 0
+IsLonger old more new = (before : List ℕ) × (old ≡ Some before) × (new ≡ before ++ more)
+
+-- what was kept, and behind it what is left, where both are told
+abbrev pub text_of : Option (List ℕ) → Option (List ℕ) → Option (List ℕ)
+text_of (Some kept) (Some left) = Some (kept ++ left)
+text_of kept left = None
+
+-- bytes that were left are kept: as long as all are, the two together stay the same text
+abbrev pub MovesBytes : Option (List ℕ) → Option (List ℕ) → Option (List ℕ) → Option (List ℕ) → Type 0
+MovesBytes kept left kept_now left_now =
+    (bytes told : List ℕ) → kept_now ≡ Some bytes → left ≡ Some told
+    → text_of kept_now left_now ≡ text_of kept left

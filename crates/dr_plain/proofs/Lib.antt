@@ -1,0 +1,4 @@
+pub mod Images
+pub mod Tops
+pub mod Reading
+pub mod Cuts

@@ -1,0 +1,3 @@
+pub mod Input
+pub mod Puts
+pub mod Top

@@ -1,0 +1,12 @@
+//! The top call: a command that needs no threads, from its words and the bytes of a guest file to
+//! what stands on its four ports.
+#![tactic(auto)]
+
+mod ending;
+mod input;
+mod journal;
+mod plain;
+#[cfg(test)]
+mod tests;
+
+pub use plain::{PlainEnd, plain_main};

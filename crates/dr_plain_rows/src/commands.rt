@@ -1,0 +1,43 @@
+//! A command over a file in memory.
+
+use dr_io::{ByteSource, FixedClock, Port, PortBook};
+use dr_plain::{PlainEnd, plain_main};
+use dr_types::{Listed, Status};
+use std::alloc::{AllocError, Global};
+
+fn words_of(alloc: Global, words: &[&str]) -> Result<Vec<String>, AllocError> {
+    let mut all = Vec::new(alloc);
+    for word in words {
+        all.push(String::from_str(alloc, word)?)?;
+    }
+    Ok(all)
+}
+
+/// Does a command on a file.
+fn command(alloc: Global, words: &[&str], file: &[u8]) -> Result<PlainEnd<PortBook>, AllocError> {
+    let bytes = Listed::from_vec(file.to_vec(alloc)?);
+    let mut source = ByteSource::new(bytes, 4096, Listed::new(alloc));
+    let out = PortBook::new(alloc, Listed::new(alloc));
+    let words = words_of(alloc, words)?;
+    let clock = FixedClock { now: 0 };
+    Ok(plain_main(alloc, words.as_slice(), &mut source, out, &clock))
+}
+
+/// Nothing was put on any port.
+fn is_empty(out: &PortBook) -> bool {
+    for port in [Port::Report, Port::Stream, Port::Image, Port::Journal] {
+        if !out.bytes(port).is_empty() {
+            return false;
+        }
+    }
+    true
+}
+
+/// A command on a file ends so, and puts nothing unless it is done. `false` also where memory is
+/// refused.
+pub fn ends(alloc: Global, words: &[&str], file: &[u8], status: Status) -> bool {
+    match command(alloc, words, file) {
+        Ok(end) => end.status == Some(status) && is_empty(&end.out) == (status != Status::Done),
+        Err(_) => false,
+    }
+}

@@ -1,0 +1,37 @@
+ghost use Rattle.std.specs.Prelude.{◌≡◌};
+ghost use Rattle.dr_rows.specs.Rows.{fault_at};
+
+use dr_types::{FileFault, What};
+
+/// What is wrong with a line.
+#[derive(Clone, Copy)]
+pub enum Kind {
+    Magic,
+    Line,
+    Number,
+    RingSize,
+    Reserve,
+    SlotTwice,
+    Unmapped,
+    CrossPage,
+    TooLarge(What),
+}
+
+impl Kind {
+    /// The fault of the line with this number.
+    pub fn at(self, no: u64) -> FileFault
+        ensures { result ≡ fault_at self no }
+    {
+        match self {
+            Kind::Magic => FileFault::Magic { no },
+            Kind::Line => FileFault::Line { no },
+            Kind::Number => FileFault::Number { no },
+            Kind::RingSize => FileFault::RingSize { no },
+            Kind::Reserve => FileFault::Reserve { no },
+            Kind::SlotTwice => FileFault::SlotTwice { no },
+            Kind::Unmapped => FileFault::Unmapped { no },
+            Kind::CrossPage => FileFault::CrossPage { no },
+            Kind::TooLarge(what) => FileFault::TooLarge { what, no },
+        }
+    }
+}
