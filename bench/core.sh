@@ -5,7 +5,7 @@
 set -eu
 here="$(cd "$(dirname "$0")" && pwd)"
 program="${1:-$here/../crates/dr_speed/out/dr_speed}"
-runs="${2:-9}"
+runs="${2:-21}"
 folder="$(mktemp -d /tmp/bench.XXXXXX)"
 trap 'rm -rf "$folder"' EXIT
 
@@ -36,45 +36,51 @@ check() {
     at_least 1 'ranges deposited behind a later one'
     at_least 1 'throttles with a sleep'
 }
-# The microseconds of the whole process.
+# The milliseconds of the whole process by the clock, and those of the processor.
 took() {
-    local from
-    from=$(date +%s%N)
-    "$program" < "$folder/request" > "$folder/counts"
-    echo $((($(date +%s%N) - from) / 1000))
+    local TIMEFORMAT='%3R %3U %3S' real user system
+    { time "$program" < "$folder/request" > "$folder/counts"; } 2> "$folder/times"
+    read -r real user system < "$folder/times"
+    echo "$((10#${real/./})) $((10#${user/./} + 10#${system/./}))"
 }
-# The best of the runs of a request, in microseconds.
+# The best of the runs of a request, by the clock and of the processor.
 best() {
-    local least= now
+    local clock= processor= now used
     printf '%s\n' "$1" > "$folder/request"
     for ((run = 0; run < runs; run++)); do
-        now=$(took)
-        if [ -z "$least" ] || [ "$now" -lt "$least" ]; then least=$now; fi
+        read -r now used < <(took)
+        if [ -z "$clock" ] || [ "$now" -lt "$clock" ]; then clock=$now; fi
+        if [ -z "$processor" ] || [ "$used" -lt "$processor" ]; then processor=$used; fi
     done
-    echo "$least"
+    echo "$clock $processor"
 }
-# So many events shared by so many guests: each line has the ratio to the time of half the events.
+# A ratio with two places.
+ratio() {
+    printf '%d.%02d' $(($1 / $2)) $(($1 * 100 / $2 % 100))
+}
+# So many events shared by so many guests: each line but the first has the ratio to the times of half the events.
 measure() {
-    local guests="$1" wanted last= now taken
+    local guests="$1" wanted clock processor taken last_clock= last_processor=
     for wanted in 150000 300000 600000; do
         request="$wanted $guests"
-        now=$(best "$request")
+        read -r clock processor < <(best "$request")
         check "$wanted"
         if [ "$guests" -ge 4 ]; then at_least 200 'rounds answered'; fi
         taken="$(count 'events taken')"
-        printf '%7d events, longest history %6d: %3d.%03d ms, %8d events a second' "$taken" \
-            "$(count 'events of the longest history')" $((now / 1000)) $((now % 1000)) $((taken * 1000000 / now))
-        if [ -n "$last" ]; then
-            printf ', %d.%02d times' $((now / last)) $((now * 100 / last % 100))
-        fi
+        printf '%d events, the longest history %d: %d ms, %d events a second' "$taken" \
+            "$(count 'events of the longest history')" "$clock" $((taken * 1000 / clock))
+        if [ -n "$last_clock" ]; then printf ', %s times' "$(ratio "$clock" "$last_clock")"; fi
+        printf '; processor %d ms' "$processor"
+        if [ -n "$last_processor" ]; then printf ', %s times' "$(ratio "$processor" "$last_processor")"; fi
         printf '\n'
-        last=$now
+        last_clock=$clock
+        last_processor=$processor
     done
 }
 # What is no request is refused by one line and status 1.
 refuses() {
     local status=0
-    printf "$1" | "$program" > "$folder/counts" 2> "$folder/error" || status=$?
+    printf -- "$1" | "$program" > "$folder/counts" 2> "$folder/error" || status=$?
     [ "$status" = 1 ] && [ ! -s "$folder/counts" ] && [ "$(wc -l < "$folder/error")" = 1 ] ||
         fail "the input '$1' is not refused as it should be"
 }

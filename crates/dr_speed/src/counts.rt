@@ -8,7 +8,7 @@ use dr_history::Event;
 use std::io;
 
 /// How many events all histories and the longest of them have, and how many of each kind.
-#[derive(Clone, Copy, Debug)]
+#[derive(Clone, Copy)]
 pub struct Counts {
     pub events: u64,
     pub longest: u64,
@@ -70,7 +70,7 @@ fn print_migrator(rt: &impl Print, kinds: &Tally) -> io::Result<()> {
 }
 
 /// Prints the counts of so many guests, one a line.
-pub fn print_counts(rt: &impl Print, guests: u32, counts: &Counts) -> io::Result<()> {
+pub fn print_counts(rt: &impl Print, guests: u64, counts: &Counts) -> io::Result<()> {
     println!(rt; "guests, each with a history of its own: {guests}")?;
     print_count(rt, "events taken", counts.events)?;
     print_count(rt, "events of the longest history", counts.longest)?;

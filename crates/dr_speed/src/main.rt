@@ -4,6 +4,7 @@
 
 mod asks;
 mod counts;
+mod fault;
 mod migration;
 mod request;
 mod rings;
@@ -12,33 +13,25 @@ mod sample;
 mod tally;
 mod vcpus;
 
-use crate::counts::print_counts;
-use crate::request::read_request;
-use crate::run::{RunFault, run};
-use dr_io::ReadSource;
+use crate::counts::{Counts, print_counts};
+use crate::fault::{RunFault, exit_code};
+use crate::request::{Request, read_request};
+use crate::run::run;
+use dr_io::{ReadSource, Source};
+use std::alloc::Global;
 use std::io;
 use std::process::ExitCode;
 
-/// The exit code of a fault.
-fn exit_code(fault: RunFault) -> u8 {
-    match fault {
-        RunFault::Refused { .. } => 2,
-        RunFault::Guest { .. } => 3,
-        RunFault::Memory => 4,
-    }
+/// The request that a source has, and the counts of its run.
+fn counted_run<S: Source>(alloc: Global, source: &mut S) -> Result<(Request, Counts), RunFault> {
+    let request = read_request(alloc, source)?;
+    Ok((request, run(alloc, request)?))
 }
 
 fn main(rt: HostRuntime) -> Result<ExitCode, io::Error> {
-    let alloc = rt.alloc();
     let mut source = ReadSource::new(rt.reader());
-    let Some(request) = read_request(alloc, &mut source) else {
-        eprintln!(rt;
-            "dr_speed: expected one line: a number of events, or that, a space and a number of guests"
-        )?;
-        return Ok(ExitCode::from(1));
-    };
-    match run(alloc, request) {
-        Ok(counts) => {
+    match counted_run(rt.alloc(), &mut source) {
+        Ok((request, counts)) => {
             print_counts(&rt, request.guests, &counts)?;
             Ok(ExitCode::from(0))
         }

@@ -5,48 +5,13 @@ ghost use Rattle.dr_types.specs.Validity.{IsValid};
 ghost use Rattle.dr_history.specs.Legality.{IsLegal};
 
 use crate::counts::Counts;
+use crate::fault::{RunFault, refusal};
 use crate::migration::migrate;
 use crate::request::Request;
 use crate::sample::sample_guest;
-use dr_core::{Core, CoreFault};
-use dr_types::{FileFault, Guest, Memory};
+use dr_core::Core;
+use dr_types::Guest;
 use std::alloc::Global;
-use thiserror::Error;
-
-/// Why a run came to no end.
-#[derive(Clone, Copy, Debug, PartialEq, Eq, Error)]
-pub enum RunFault {
-    /// An event, counted from 0 in its history, is refused, or the end behind so many events.
-    #[error("event {event} breaks rule {rule}")]
-    Refused { event: u64, rule: u32 },
-    #[error("the sample guest is refused: {why}")]
-    Guest { why: FileFault },
-    #[error("out of memory")]
-    Memory,
-}
-
-impl From<Memory> for RunFault {
-    fn from(_error: Memory) -> RunFault {
-        RunFault::Memory
-    }
-}
-
-impl From<FileFault> for RunFault {
-    fn from(why: FileFault) -> RunFault {
-        RunFault::Guest { why }
-    }
-}
-
-/// Why a judge took no more.
-fn refusal(core: &Core, fault: CoreFault) -> RunFault {
-    match fault {
-        CoreFault::Illegal { rule } => RunFault::Refused {
-            event: core.history().len() as u64,
-            rule,
-        },
-        CoreFault::Memory => RunFault::Memory,
-    }
-}
 
 /// A judge that took a whole migration of a guest, of so many events and a few more.
 fn run_guest(alloc: Global, guest: &Guest, wanted: u32) -> Result<Core, RunFault>

@@ -12,10 +12,10 @@ use std::fmt::Write;
 const VCPUS: u32 = 4;
 
 /// How many pages the guest has, from address 0 on.
-const PAGES: u64 = 4_000;
+const PAGES: u32 = 2_000;
 
 /// How many pages all vCPUs write often.
-const HOT_PAGES: u64 = 16;
+const HOT_PAGES: u32 = 16;
 
 /// How many operations the repeated part of a script has.
 const BODY_OPS: u32 = 1_000;
@@ -31,7 +31,7 @@ pace 1
 threshold 8
 rounds 64
 quota 50000
-slot 0 0 4000
+slot 0 0 2000
 ";
 
 /// A number that looks like chance, from the one before it.
@@ -41,11 +41,10 @@ fn next_number(last: u64) -> u64 {
 }
 
 /// The address of 8 bytes in one of so many pages, picked by a number.
-fn picked_address(number: u64, pages: u64) -> u64
-    requires some { 1 ≤ pages }
-    requires few { pages ≤ 4000 }
+fn picked_address(number: u64, pages: u32) -> u64
+    requires { 1 ≤ pages }
 {
-    (number >> 33) % pages * 4_096 + (number >> 20) % 512 * 8
+    (number >> 33) % u64::from(pages) * 4_096 + (number >> 20) % 512 * 8
 }
 
 /// Adds the line of the operation that a number picks: of 32, 9 are loads, 1 is an addition, 4 are

@@ -7,7 +7,7 @@ use dr_history::Event;
 
 /// How many events there are of each kind that matters. `out_of_order` are the Deposited
 /// directly behind that of a later range of the same vCPU, `sleep` the Throttled of some time.
-#[derive(Clone, Copy, Debug, PartialEq, Eq)]
+#[derive(Clone, Copy)]
 pub struct Tally {
     pub opened: u64,
     pub filled: u64,
