@@ -1,20 +1,45 @@
 //! All that the simulation asks of the judge. Of a vCPU or a page that the guest hasn't, each
 //! question answers what it would of one to which nothing has happened.
 
-ghost use Rattle.std.specs.Prelude.{◌≡◌, ◌-◌, ◌≤◌, ◌<◌, ◌%◌, nat_le, true, None, IfSome, length};
+ghost use Rattle.std.specs.Prelude.{◌≡◌, ◌-◌, ◌≤◌, ◌<◌, ◌^◌, ◌%◌, nat_le, true, None, All, IfOk, IfSome, length, slice_get};
 ghost use Rattle.dr_types.specs.Pages.{page_count, page_of_address};
 ghost use Rattle.dr_types.specs.Scripts.{vcpu_count, operation};
+ghost use Rattle.dr_history.specs.Dirty.{dirty_pages};
 ghost use Rattle.dr_history.specs.Entries.{opens, pushes, resets};
 ghost use Rattle.dr_history.specs.Execution.{ops};
 ghost use Rattle.dr_history.specs.Memory.{page_bytes, loaded};
-ghost use Rattle.dr_history.specs.Protection.{cached, writable};
+ghost use Rattle.dr_history.specs.Protection.{cached, started, writable};
+ghost use Rattle.dr_history.specs.Rounds.{last_synced};
 ghost use Rattle.dr_history.specs.Rules.{in_one_page};
 ghost use Rattle.dr_history.specs.Throttles.{throttle};
 ghost use Rattle.dr_history.specs.Vcpus.{is_full, kicked};
+ghost use Rattle.dr_law.specs.Copies.{copies, pages_of};
 
 use dr_core::Core;
 use dr_slots::page_of_address;
-use dr_types::Op;
+use dr_types::{Memory, Op, PageList};
+use std::alloc::Global;
+
+/// How many vCPUs the guest has.
+pub fn vcpus(core: &Core) -> u32
+    ensures { result ≡ vcpu_count core.now.guest }
+{
+    core.vcpus()
+}
+
+/// How many rounds the guest has before the stop.
+pub fn rounds(core: &Core) -> u32
+    ensures { result ≡ core.now.guest.settings.rounds }
+{
+    core.guest().settings.rounds
+}
+
+/// Logging has started.
+pub fn is_started(core: &Core) -> bool
+    ensures { result ≡ started core.now.past }
+{
+    core.started()
+}
 
 /// The operation that a vCPU executes next.
 pub fn next_op(core: &Core, v: u32) -> Option<Op>
@@ -130,6 +155,23 @@ pub fn writable(core: &Core, page: u32) -> bool
     ensures { page < page_count core.now.guest → result ≡ writable page core.now.past }
 {
     page < core.pages() && core.writable(page)
+}
+
+/// The pages that the destination lacks, rising. An `Err` comes for want of memory alone.
+pub fn dirty_pages(core: &Core, alloc: Global) -> Result<PageList, Memory>
+    ensures pages { IfOk result (λ pages. pages ≡ dirty_pages core.now.guest core.now.past) }
+    ensures small { IfOk result (λ pages. All (λ page. page < 2 ^ 32) pages) }
+    ensures few { IfOk result (λ pages. length pages ≤ page_count core.now.guest) }
+{
+    core.dirty_pages(alloc)
+}
+
+/// The page of the last answer that is to be copied next.
+pub fn next_copy(core: &Core) -> Option<u32>
+    ensures { let past = core.now.past in
+        result ≡ slice_get (pages_of (last_synced past)) (copies past) }
+{
+    core.next_copy()
 }
 
 /// How many events were taken.

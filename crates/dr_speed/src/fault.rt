@@ -3,6 +3,7 @@
 ghost use Rattle.std.specs.Prelude.{◌≡◌, length};
 ghost use Rattle.dr_speed.specs.Faults.{code_of, refusal_of};
 
+use crate::asks::events;
 use dr_core::{Core, CoreFault};
 use dr_types::{FileFault, Memory};
 use thiserror::Error;
@@ -10,7 +11,8 @@ use thiserror::Error;
 /// Why a run comes to no end.
 #[derive(Clone, Copy, Debug, Error)]
 pub enum RunFault {
-    #[error("expected one line: a number of events from 1 to 10000000, and after a space a number of guests from 1 to 64 or nothing")]
+    /// The input is no request, or one of too many events or guests.
+    #[error("expected one line: a number of events, or that, a space and a number of guests")]
     Request,
     /// An event, counted from 0 in its history, is refused, or the end behind so many events.
     #[error("event {event} breaks rule {rule}")]
@@ -51,7 +53,7 @@ pub fn refusal(core: &Core, fault: CoreFault) -> RunFault
 {
     match fault {
         CoreFault::Illegal { rule } => RunFault::Refused {
-            event: core.history().len() as u64,
+            event: events(core),
             rule,
         },
         CoreFault::Memory => RunFault::Memory,

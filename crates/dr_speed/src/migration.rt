@@ -3,11 +3,14 @@
 ghost use Rattle.std.specs.Prelude.{◌≡◌, ◌≤◌, true, OnOk};
 ghost use Rattle.dr_history.specs.Rules.{may_end};
 
-use crate::asks::{events, has_few, last_round, throttle_us};
+use crate::asks::{
+    dirty_pages, events, has_few, last_round, next_copy, rounds, throttle_us, vcpus,
+};
 use crate::rings::reap_all;
 use crate::vcpus::{kick_all, turn};
 use dr_core::{Core, CoreFault};
 use dr_history::Event;
+use dr_types::limits::{MOST_OPS, MOST_PAGES};
 use std::alloc::Global;
 
 /// How many operations a vCPU executes in its turn.
@@ -16,17 +19,11 @@ const TURN_OPS: u32 = 8;
 /// How many pages are copied between two turns.
 const TURN_COPIES: u32 = 64;
 
-/// More pages than any guest has.
-const ALL_COPIES: u32 = 100_000;
-
-/// More turns than any guest's scripts have.
-const MOST_TURNS: u32 = 200_000;
-
 /// Copies pages of the last answer, at most so many.
 fn copy(core: &mut Core, most: u32) -> Result<(), CoreFault> {
     let r = last_round(core);
     for _ in 0..most {
-        match core.next_copy() {
+        match next_copy(core) {
             Some(page) => core.step(Event::Copied { r, page })?,
             None => return Ok(()),
         }
@@ -36,7 +33,7 @@ fn copy(core: &mut Core, most: u32) -> Result<(), CoreFault> {
 
 /// Tells each vCPU how long it is to sleep.
 fn throttle_all(core: &mut Core) -> Result<(), CoreFault> {
-    for v in 0..core.vcpus() {
+    for v in 0..vcpus(core) {
         let us = throttle_us(core, v);
         core.step(Event::Throttled { v, us })?;
     }
@@ -50,7 +47,7 @@ fn round(alloc: Global, core: &mut Core) -> Result<(), CoreFault> {
     core.step(Event::Asked { r })?;
     kick_all(core)?;
     reap_all(core)?;
-    let pages = core.dirty_pages(alloc)?;
+    let pages = dirty_pages(core, alloc)?;
     let at = events(core);
     core.step(Event::Synced { r, at, pages })
 }
@@ -64,7 +61,7 @@ fn live_round(alloc: Global, core: &mut Core) -> Result<(), CoreFault> {
 /// The vCPUs go on while pages are copied: one turn, and more up to this number of events or the
 /// end of all scripts. Then the last pages are copied.
 fn span(core: &mut Core, wanted: u64) -> Result<(), CoreFault> {
-    for _ in 0..MOST_TURNS {
+    for _ in 0..MOST_OPS {
         let before = events(core);
         turn(core, TURN_OPS)?;
         copy(core, TURN_COPIES)?;
@@ -73,7 +70,7 @@ fn span(core: &mut Core, wanted: u64) -> Result<(), CoreFault> {
             break;
         }
     }
-    copy(core, ALL_COPIES)
+    copy(core, MOST_PAGES)
 }
 
 /// How many events there are to be when a round is asked: each round behind the first and before
@@ -85,7 +82,8 @@ fn share(wanted: u32, r: u32, last: u32) -> u64
 }
 
 /// The rounds behind the first and before the last, up to an answer with few pages.
-fn middle_rounds(alloc: Global, core: &mut Core, wanted: u32, last: u32) -> Result<(), CoreFault> {
+fn middle_rounds(alloc: Global, core: &mut Core, wanted: u32) -> Result<(), CoreFault> {
+    let last = rounds(core);
     for r in 2..last {
         span(core, share(wanted, r, last))?;
         live_round(alloc, core)?;
@@ -98,7 +96,7 @@ fn middle_rounds(alloc: Global, core: &mut Core, wanted: u32, last: u32) -> Resu
 
 /// The last round before the stop: each vCPU executes one operation, so that few pages are dirty.
 fn few_round(alloc: Global, core: &mut Core) -> Result<(), CoreFault> {
-    copy(core, ALL_COPIES)?;
+    copy(core, MOST_PAGES)?;
     turn(core, 1)?;
     live_round(alloc, core)
 }
@@ -107,7 +105,7 @@ fn few_round(alloc: Global, core: &mut Core) -> Result<(), CoreFault> {
 fn switch_over(alloc: Global, core: &mut Core) -> Result<(), CoreFault> {
     core.step(Event::Stopped)?;
     round(alloc, core)?;
-    copy(core, ALL_COPIES)?;
+    copy(core, MOST_PAGES)?;
     core.step(Event::Switched)
 }
 
@@ -119,8 +117,7 @@ pub fn migrate(alloc: Global, core: &mut Core, wanted: u32) -> Result<(), CoreFa
     turn(core, TURN_OPS)?;
     core.step(Event::Start { at: 0 })?;
     live_round(alloc, core)?;
-    let last = core.guest().settings.rounds;
-    middle_rounds(alloc, core, wanted, last)?;
+    middle_rounds(alloc, core, wanted)?;
     if !has_few(core) {
         few_round(alloc, core)?;
     }

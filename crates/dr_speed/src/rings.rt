@@ -2,7 +2,7 @@
 
 ghost use Rattle.std.specs.Prelude.{◌<◌};
 
-use crate::asks::{pushes, resets};
+use crate::asks::{pushes, resets, vcpus};
 use dr_core::{Core, CoreFault};
 use dr_history::Event;
 
@@ -49,7 +49,7 @@ pub fn flush(core: &mut Core) -> Result<(), CoreFault> {
 /// Empties the rings of all vCPUs.
 pub fn reap_all(core: &mut Core) -> Result<(), CoreFault> {
     let mut any = false;
-    for v in 0..core.vcpus() {
+    for v in 0..vcpus(core) {
         any |= reap(core, v)?;
     }
     if any { flush(core) } else { Ok(()) }

@@ -61,7 +61,7 @@ fn push_op(text: &mut String, number: u64) -> Result<(), AllocError> {
     Ok(())
 }
 
-/// Adds the script of a vCPU.
+/// Adds the script of a vCPU: the repeated part 49 times, and a halt.
 fn push_script(text: &mut String, v: u32) -> Result<(), AllocError> {
     text.push_str("vcpu\nrep 49\n")?;
     let mut number = u64::from(v);

@@ -1,7 +1,8 @@
 //! What the simulated vCPUs do: they execute their scripts, and leave the guest.
 
 use crate::asks::{
-    cached, is_buffered, is_full, kicked, loaded, next_op, opens, ops, page_at, pushes, writable,
+    cached, is_buffered, is_full, is_started, kicked, loaded, next_op, opens, ops, page_at, pushes,
+    vcpus, writable,
 };
 use crate::rings::{flush, reap};
 use dr_core::{Core, CoreFault};
@@ -24,7 +25,7 @@ fn leave(core: &mut Core, v: u32, why: Why) -> Result<(), CoreFault> {
 
 /// Gets a vCPU the permission to write a page.
 fn get_permission(core: &mut Core, v: u32, page: u32) -> Result<(), CoreFault> {
-    if !core.started() || cached(core, v, page) {
+    if !is_started(core) || cached(core, v, page) {
         return Ok(());
     }
     if writable(core, page) {
@@ -52,7 +53,7 @@ fn store(core: &mut Core, v: u32, i: u32, addr: u64, value: u64) -> Result<(), C
     Ok(())
 }
 
-/// An operation of a vCPU. The sample's scripts have loads, additions, stores of 8 bytes and a halt.
+/// An operation of a vCPU. The sample's scripts have loads, additions, stores of 8 bytes and halts.
 fn execute(core: &mut Core, v: u32, i: u32, op: Op) -> Result<(), CoreFault> {
     match op {
         Op::R { addr } => {
@@ -91,7 +92,7 @@ fn go_on(core: &mut Core, v: u32) -> Result<(), CoreFault> {
 
 /// Each vCPU executes so many operations, one vCPU after the other.
 pub fn turn(core: &mut Core, count: u32) -> Result<(), CoreFault> {
-    for v in 0..core.vcpus() {
+    for v in 0..vcpus(core) {
         for _ in 0..count {
             go_on(core, v)?;
         }
@@ -101,7 +102,7 @@ pub fn turn(core: &mut Core, count: u32) -> Result<(), CoreFault> {
 
 /// Each vCPU that was in the guest when the round was asked leaves it.
 pub fn kick_all(core: &mut Core) -> Result<(), CoreFault> {
-    for v in 0..core.vcpus() {
+    for v in 0..vcpus(core) {
         if kicked(core, v) {
             leave(core, v, Why::Kicked)?;
         }
