@@ -1,9 +1,6 @@
-//! The judge of histories that keeps the state beside the events, and what it tells of it.
+//! The judge of histories: it takes an event that breaks no rule, and names the least rule that another breaks.
 #![tactic(auto)]
 
 mod keeper;
-mod page_views;
-mod round_views;
-mod vcpu_views;
 
 pub use keeper::{Core, CoreFault};

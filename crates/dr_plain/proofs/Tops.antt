@@ -15,7 +15,7 @@ use Rattle.dr_history.specs.declared.event.Event.{Event}
 use Rattle.dr_history.specs.declared.event.Event.TheVariants.{Switched}
 use Rattle.dr_history.specs.Kinds.{is_switched}
 use Rattle.dr_history.specs.Stream.{stream_of}
-use Rattle.dr_core.specs.State.{State}
+use Rattle.dr_log.specs.State.{State}
 use Rattle.dr_headline.proofs.Promises.{headline, promises}
 use Rattle.dr_run.specs.declared.run.RunFault.{RunFault}
 use Rattle.dr_run.specs.Built.{is_built_for}
@@ -41,33 +41,33 @@ switched (Switched ∷ past) h = refl
 switched (e ∷ past) h = cc
 
 -- the stream and what stands behind it were put
-pub migrated : (reads : ℕ → Type 0) (guest : Guest) (start mid end : Ports) (core : State) (r : Result (Unit {0}) RunFault) → IsValid guest → core.guest ≡ guest
-    → IsHistoryOf reads guest core.past → ends_switched core.past ≡ true → AllLeft guest core.past → mid ≡ put_at Stream (stream_of guest core.past) start
-    → OnOk r (end ≡ put_all (rest_of core.guest core.past) mid) → OnOk r (IsMigrated reads guest start end)
-migrated reads guest start mid end core (Ok done) valid same history ended left sent rest =
-    let is = switched core.past ended in
+pub migrated : (reads : ℕ → Type 0) (guest : Guest) (start mid end : Ports) (log : State) (r : Result (Unit {0}) RunFault) → IsValid guest → log.guest ≡ guest
+    → IsHistoryOf reads guest log.past → ends_switched log.past ≡ true → AllLeft guest log.past → mid ≡ put_at Stream (stream_of guest log.past) start
+    → OnOk r (end ≡ put_all (rest_of log.guest log.past) mid) → OnOk r (IsMigrated reads guest start end)
+migrated reads guest start mid end log (Ok done) valid same history ended left sent rest =
+    let is = switched log.past ended in
     record {
-      past = core.past;
+      past = log.past;
       history = history;
       switched = is;
       executed = λ v lt. (left.left v lt).whole;
-      headline = headline guest core.past valid history.legal.0 is;
-      ports = rest ∙ ap (λ g. put_all (rest_of g core.past) mid) same ∙ ap (put_all (rest_of guest core.past)) sent
-          ∙ ap (λ ps. put_all ((Stream, stream_of guest core.past) ∷ ps) start) (sym (all_puts guest core.past is));
+      headline = headline guest log.past valid history.legal.0 is;
+      ports = rest ∙ ap (λ g. put_all (rest_of g log.past) mid) same ∙ ap (put_all (rest_of guest log.past)) sent
+          ∙ ap (λ ps. put_all ((Stream, stream_of guest log.past) ∷ ps) start) (sym (all_puts guest log.past is));
     }
-migrated reads guest start mid end core (Err why) valid same history ended left sent rest = tt
+migrated reads guest start mid end log (Err why) valid same history ended left sent rest = tt
 
 -- the stream was put, and what stands behind it ended with a first part of a put
-pub cut_behind_stream : (reads : ℕ → Type 0) (guest : Guest) (start mid end : Ports) (core : State) (r : Result (Unit {0}) RunFault) → core.guest ≡ guest
-    → IsHistoryOf reads guest core.past → ends_switched core.past ≡ true → mid ≡ put_at Stream (stream_of guest core.past) start
-    → OnErr r (PutsCut (rest_of core.guest core.past) mid end) → OnErr r (IsCutOff reads guest start end)
-cut_behind_stream reads guest start mid end core (Ok done) same history ended sent rest = tt
-cut_behind_stream reads guest start mid end core (Err why) same history ended sent rest = record {
-  past = core.past;
+pub cut_behind_stream : (reads : ℕ → Type 0) (guest : Guest) (start mid end : Ports) (log : State) (r : Result (Unit {0}) RunFault) → log.guest ≡ guest
+    → IsHistoryOf reads guest log.past → ends_switched log.past ≡ true → mid ≡ put_at Stream (stream_of guest log.past) start
+    → OnErr r (PutsCut (rest_of log.guest log.past) mid end) → OnErr r (IsCutOff reads guest start end)
+cut_behind_stream reads guest start mid end log (Ok done) same history ended sent rest = tt
+cut_behind_stream reads guest start mid end log (Err why) same history ended sent rest = record {
+  past = log.past;
   history = history;
-  promises = promises guest core.past history.legal.0;
-  ports = inr (subst (λ ps. PutsCut ps (put_at Stream (stream_of guest core.past) start) end) (sym (all_puts guest core.past (switched core.past ended)))
-      (subst (λ (ports : Ports). PutsCut (rest_of guest core.past) ports end) sent (subst (λ (g : Guest). PutsCut (rest_of g core.past) mid end) same rest)));
+  promises = promises guest log.past history.legal.0;
+  ports = inr (subst (λ ps. PutsCut ps (put_at Stream (stream_of guest log.past) start) end) (sym (all_puts guest log.past (switched log.past ended)))
+      (subst (λ (ports : Ports). PutsCut (rest_of guest log.past) ports end) sent (subst (λ (g : Guest). PutsCut (rest_of g log.past) mid end) same rest)));
 }
 
 -- the stream ended with a first part of a put

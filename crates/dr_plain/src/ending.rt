@@ -8,7 +8,7 @@ ghost use Rattle.dr_run.specs.Going.{IsFault};
 ghost use Rattle.dr_plain.specs.Puts.{PutsPart, rest_of};
 
 use crate::journal::journal;
-use dr_core::Core;
+use dr_log::Log;
 use dr_io::{Outlet, Port, PutTurn};
 use dr_report::report_text;
 use dr_run::RunFault;
@@ -29,57 +29,57 @@ fn put<O: Outlet>(out: &mut O, port: Port, bytes: &[u8]) -> Result<(), RunFault>
 
 /// Puts the guest's memory on Image, page by page.
 #[tactic(auto, using(crate::proofs::Images::page_more, crate::proofs::Images::no_page))]
-fn put_image<O: Outlet>(core: &Core, out: &mut O) -> Result<(), RunFault>
+fn put_image<O: Outlet>(log: &Log, out: &mut O) -> Result<(), RunFault>
     ensures done { OnOk result (O.told out.new
-        ≡ put_at Port.Image (image_of core.now.guest core.now.past) (O.told out.old)) }
-    ensures cut { let image = image_of core.now.guest core.now.past in
+        ≡ put_at Port.Image (image_of log.now.guest log.now.past) (O.told out.old)) }
+    ensures cut { let image = image_of log.now.guest log.now.past in
         OnErr result (PutsPart Port.Image image (O.told out.old) (O.told out.new)) }
     ensures later { O.faults out.old ≤ O.faults out.new }
     ensures fault { IfErr result (IsFault (O.faults out.old) (O.faults out.new)) }
 {
-    for page in 0..core.pages() {
-        put(out, Port::Image, core.page(page))?;
+    for page in 0..log.pages() {
+        put(out, Port::Image, log.page(page))?;
     }
     Ok(())
 }
 
 /// Puts the report of the history.
-fn put_report<O: Outlet>(alloc: Global, core: &Core, out: &mut O) -> Result<(), RunFault>
+fn put_report<O: Outlet>(alloc: Global, log: &Log, out: &mut O) -> Result<(), RunFault>
     ensures done { OnOk result (O.told out.new
-        ≡ put_at Port.Report (report_of core.now.guest core.now.past) (O.told out.old)) }
-    ensures cut { let report = report_of core.now.guest core.now.past in
+        ≡ put_at Port.Report (report_of log.now.guest log.now.past) (O.told out.old)) }
+    ensures cut { let report = report_of log.now.guest log.now.past in
         OnErr result (PutsPart Port.Report report (O.told out.old) (O.told out.new)) }
     ensures later { O.faults out.old ≤ O.faults out.new }
     ensures fault { IfErr result (IsFault (O.faults out.old) (O.faults out.new)) }
 {
-    let report = report_text(alloc, core.history(), core.guest())?;
+    let report = report_text(alloc, log.history(), log.guest())?;
     put(out, Port::Report, report.as_bytes())
 }
 
 /// Puts the journal: the guest's text and the history's.
-fn put_journal<O: Outlet>(alloc: Global, core: &Core, out: &mut O) -> Result<(), RunFault>
+fn put_journal<O: Outlet>(alloc: Global, log: &Log, out: &mut O) -> Result<(), RunFault>
     ensures done { OnOk result (O.told out.new
-        ≡ put_at Port.Journal (journal_text core.now.guest core.now.past) (O.told out.old)) }
-    ensures cut { let journal = journal_text core.now.guest core.now.past in
+        ≡ put_at Port.Journal (journal_text log.now.guest log.now.past) (O.told out.old)) }
+    ensures cut { let journal = journal_text log.now.guest log.now.past in
         OnErr result (PutsPart Port.Journal journal (O.told out.old) (O.told out.new)) }
     ensures later { O.faults out.old ≤ O.faults out.new }
     ensures fault { IfErr result (IsFault (O.faults out.old) (O.faults out.new)) }
 {
-    let journal = journal(alloc, core.guest(), core.history())?;
+    let journal = journal(alloc, log.guest(), log.history())?;
     put(out, Port::Journal, journal.as_bytes())
 }
 
 /// Puts what stands behind the stream: the image, the report and the journal. After an `Err` nothing
 /// more is put: all puts before one were made, and a first part of that one.
-pub fn put_rest<O: Outlet>(alloc: Global, core: &Core, out: &mut O) -> Result<(), RunFault>
-    ensures done { let puts = rest_of core.now.guest core.now.past in
+pub fn put_rest<O: Outlet>(alloc: Global, log: &Log, out: &mut O) -> Result<(), RunFault>
+    ensures done { let puts = rest_of log.now.guest log.now.past in
         OnOk result (O.told out.new ≡ put_all puts (O.told out.old)) }
-    ensures cut { let puts = rest_of core.now.guest core.now.past in
+    ensures cut { let puts = rest_of log.now.guest log.now.past in
         OnErr result (PutsCut puts (O.told out.old) (O.told out.new)) }
     ensures later { O.faults out.old ≤ O.faults out.new }
     ensures fault { IfErr result (IsFault (O.faults out.old) (O.faults out.new)) }
 {
-    put_image(core, out)?;
-    put_report(alloc, core, out)?;
-    put_journal(alloc, core, out)
+    put_image(log, out)?;
+    put_report(alloc, log, out)?;
+    put_journal(alloc, log, out)
 }

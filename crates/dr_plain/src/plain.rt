@@ -40,8 +40,8 @@ fn migrate<O: Outlet, C: Clock>(alloc: Global, guest: &Guest, out: O, clock: &C)
     ensures fault { IfErr result.end (IsFault (O.faults out) (O.faults result.out)) }
 {
     let RunEnd { end, mut out } = run_halting(alloc, guest, out, clock);
-    let core = match end {
-        Ok(core) => core,
+    let log = match end {
+        Ok(log) => log,
         Err(fault) => {
             return Migrated {
                 end: Err(fault),
@@ -49,7 +49,7 @@ fn migrate<O: Outlet, C: Clock>(alloc: Global, guest: &Guest, out: O, clock: &C)
             };
         }
     };
-    let end = put_rest(alloc, &core, &mut out);
+    let end = put_rest(alloc, &log, &mut out);
     Migrated { end, out }
 }
 

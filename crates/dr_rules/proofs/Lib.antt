@@ -1,7 +1,2 @@
-pub mod Tests
-pub mod Numbers
-pub mod Rowwise
-pub mod Sets
-pub mod Copying
-pub mod Sized
 pub mod Groups
+pub mod Tests

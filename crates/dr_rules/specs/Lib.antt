@@ -1,4 +1,2 @@
-pub mod Sizes
-pub mod Tests
-pub mod Answered
+pub mod Named
 pub mod Judging

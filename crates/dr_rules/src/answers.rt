@@ -1,93 +1,20 @@
-ghost use Rattle.std.specs.Prelude.{◌≡◌, ◌<◌, ◌≤◌, ◌^◌, true, List, All, IfOk, length};
-ghost use Rattle.dr_types.specs.Pages.{page_count};
-ghost use Rattle.dr_history.specs.declared.event.Event.{Event};
-ghost use Rattle.dr_history.specs.Dirty.{dirty_pages};
-ghost use Rattle.dr_history.specs.Rules.{same_numbers, answers_covered, answers_dirty};
-ghost use Rattle.dr_state.specs.Whole.{IsReplay};
-ghost use Rattle.dr_rules.specs.Sizes.{IsSized};
-ghost use Rattle.dr_bitmap.specs.Members.{members, least_from};
-ghost use Rattle.dr_history.specs.Lookback.{is_number};
+ghost use Rattle.std.specs.Prelude.{◌≡◌};
+ghost use Rattle.dr_history.specs.Rules.{answers_covered, answers_dirty};
 
-use crate::paces::{all_covered, some_closing, some_kicked};
-use dr_bitmap::Bitmap;
 use dr_history::Event;
-use dr_state::Replay;
-use dr_types::{Guest, Listed, Memory, PageList};
-use std::alloc::Global;
-
-/// A number is the least member from another on.
-fn comes_next(set: &Bitmap, from: u32, page: u32) -> bool
-    ensures is { result ≡ is_number page (least_from from (members set.now)) }
-    ensures within { result ≡ true → page < length set.now }
-{
-    match set.next_from(from) {
-        Some(member) => member == page,
-        None => false,
-    }
-}
-
-/// These are the members, rising.
-#[tactic(auto, using(crate::proofs::Sets::member_steps))]
-fn are_members(pages: &[u32], set: &Bitmap) -> bool
-    ensures { result ≡ same_numbers pages.now (members set.now) }
-{
-    let _len = set.len();
-    let mut from = 0;
-    for at in 0..pages.len() {
-        if !comes_next(set, from, pages[at]) {
-            return false;
-        }
-        from = pages[at] + 1;
-    }
-    set.next_from(from).is_none()
-}
-
-/// These are the dirty pages, rising.
-fn are_dirty(guest: &Guest, replay: &Replay, pages: &[u32]) -> bool
-    ensures { (past : List Event) → IsReplay guest.now past replay.now
-        → result ≡ same_numbers pages.now (dirty_pages guest.now past) }
-{
-    are_members(pages, &replay.protection.dirty)
-}
-
-/// The members, rising.
-#[tactic(auto, using(dr_bitmap::proofs::Walks::walk_steps))]
-fn member_list(alloc: Global, set: &Bitmap) -> Result<PageList, Memory>
-    ensures { IfOk result (λ pages. pages ≡ members set.now) }
-{
-    let _len = set.len();
-    let mut pages = Listed::new(alloc);
-    let mut from = 0;
-    while let Some(page) = set.next_from(from) {
-        pages.push(page)?;
-        from = page + 1;
-    }
-    Ok(pages)
-}
-
-/// The dirty pages, rising.
-pub fn dirty_numbers(guest: &Guest, replay: &Replay, alloc: Global) -> Result<PageList, Memory>
-    requires { IsSized guest.now replay.now }
-    ensures pages { (past : List Event) → IsReplay guest.now past replay.now
-        → IfOk result (λ pages. pages ≡ dirty_pages guest.now past) }
-    ensures small { IfOk result (λ pages. All (λ page. page < 2 ^ 32) pages) }
-    ensures few { IfOk result (λ pages. length pages ≤ page_count guest.now) }
-{
-    member_list(alloc, &replay.protection.dirty)
-}
+use dr_log::Log;
 
 /// Rule 20: an answer comes when all that was opened before it was asked is reset and flushed.
 #[tactic(auto, unfolding(dr_history::specs::Rules::answers_covered))]
-pub fn answers_covered(guest: &Guest, replay: &Replay, e: &Event) -> bool
-    ensures { (past : List Event) → IsReplay guest.now past replay.now
-        → result ≡ answers_covered guest.now past e.now }
+pub fn answers_covered(log: &Log, e: &Event) -> bool
+    ensures { result ≡ answers_covered log.now.guest log.now.past e.now }
 {
     match e {
         Event::Synced { r, .. } => {
-            let kicked = some_kicked(guest, replay);
-            let covered = all_covered(guest, replay);
-            let closing = some_closing(guest, replay);
-            replay.rounds.unanswered == Some(*r) && !kicked && covered && !closing
+            let kicked = log.some_kicked();
+            let covered = log.all_covered();
+            let closing = log.has_closing();
+            log.unanswered() == Some(*r) && !kicked && covered && !closing
         }
         _ => true,
     }
@@ -95,12 +22,11 @@ pub fn answers_covered(guest: &Guest, replay: &Replay, e: &Event) -> bool
 
 /// Rule 21: an answer has exactly the dirty pages, rising.
 #[tactic(auto, unfolding(dr_history::specs::Rules::answers_dirty))]
-pub fn answers_dirty(guest: &Guest, replay: &Replay, e: &Event) -> bool
-    ensures { (past : List Event) → IsReplay guest.now past replay.now
-        → result ≡ answers_dirty guest.now past e.now }
+pub fn answers_dirty(log: &Log, e: &Event) -> bool
+    ensures { result ≡ answers_dirty log.now.guest log.now.past e.now }
 {
     match e {
-        Event::Synced { pages, .. } => are_dirty(guest, replay, pages.as_slice()),
+        Event::Synced { pages, .. } => log.are_dirty(pages.as_slice()),
         _ => true,
     }
 }

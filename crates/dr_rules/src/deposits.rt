@@ -1,69 +1,21 @@
-ghost use Rattle.std.specs.Prelude.{◌≡◌, ◌<◌, ◌≤◌, ◌&&◌, nat_le, List, vec_len};
-ghost use Rattle.std.specs.List.{list_any};
-ghost use Rattle.dr_history.specs.declared.event.Event.{Event};
-ghost use Rattle.dr_history.specs.Lookback.{below};
-ghost use Rattle.dr_history.specs.Rules.{deposits_pushed, deposits_some, deposits_entry, resets_deposited};
-ghost use Rattle.dr_state.specs.Whole.{IsReplay, IsNamed};
-ghost use Rattle.dr_rules.specs.Tests.{deposited_at};
+ghost use Rattle.std.specs.Prelude.{◌≡◌};
+ghost use Rattle.dr_history.specs.Rules.{deposits_pushed, resets_deposited};
+ghost use Rattle.dr_rules.specs.Named.{IsNamed};
 
 use dr_history::Event;
-use dr_state::{Entry, Replay};
-use dr_types::Guest;
-
-fn deposited_at(entries: &[Entry], k: u64) -> bool
-    ensures { result ≡ deposited_at entries.now k }
-{
-    if k < entries.len() as u64 {
-        entries[k as usize].deposited
-    } else {
-        false
-    }
-}
-
-#[tactic(auto, using(crate::proofs::Numbers::any_more))]
-fn deposited_between(entries: &[Entry], from: u64, to: u64) -> bool
-    requires { from ≤ to }
-    ensures { result ≡ list_any (λ k. nat_le from k && deposited_at entries.now k) (below to) }
-{
-    let mut found = false;
-    for k in from..to {
-        let deposited = deposited_at(entries, k);
-        found = found || deposited;
-    }
-    found
-}
-
-/// The entry of the vCPU is deposited.
-pub fn is_deposited(guest: &Guest, replay: &Replay, v: u32, k: u64) -> bool
-    requires { v < vec_len replay.now.entries.rows }
-    ensures { (past : List Event) → IsReplay guest.now past replay.now
-        → result ≡ list_any (deposits_entry v k) past }
-{
-    deposited_at(replay.entries.of(v), k)
-}
-
-/// Some entry of the vCPU from one number up to another is deposited.
-fn some_deposited(guest: &Guest, replay: &Replay, v: u32, from: u64, to: u64) -> bool
-    requires vcpu { v < vec_len replay.now.entries.rows }
-    requires order { from < to }
-    ensures { (past : List Event) → IsReplay guest.now past replay.now
-        → result ≡ list_any (deposits_some v from to) past }
-{
-    deposited_between(replay.entries.of(v), from, to)
-}
+use dr_log::Log;
 
 /// Rule 15: a Deposited has pushed numbers, each for the first time.
 #[tactic(auto, unfolding(dr_history::specs::Rules::deposits_pushed))]
-pub fn deposits_pushed(guest: &Guest, replay: &Replay, e: &Event) -> bool
-    requires { IsNamed replay.now e.now }
-    ensures { (past : List Event) → IsReplay guest.now past replay.now
-        → result ≡ deposits_pushed guest.now past e.now }
+pub fn deposits_pushed(log: &Log, e: &Event) -> bool
+    requires { IsNamed log.now.guest e.now }
+    ensures { result ≡ deposits_pushed log.now.guest log.now.past e.now }
 {
     match e {
         Event::Deposited { v, from, to } => {
-            let row = replay.vcpus.row(*v);
-            if *from < *to && *to <= row.pushes {
-                !some_deposited(guest, replay, *v, *from, *to)
+            let pushes = log.pushes(*v);
+            if *from < *to && *to <= pushes {
+                !log.some_deposited(*v, *from, *to)
             } else {
                 false
             }
@@ -74,16 +26,15 @@ pub fn deposits_pushed(guest: &Guest, replay: &Replay, e: &Event) -> bool
 
 /// Rule 16: a Reset is of the next entry, which was deposited.
 #[tactic(auto, unfolding(dr_history::specs::Rules::resets_deposited))]
-pub fn resets_deposited(guest: &Guest, replay: &Replay, e: &Event) -> bool
-    requires { IsNamed replay.now e.now }
-    ensures { (past : List Event) → IsReplay guest.now past replay.now
-        → result ≡ resets_deposited guest.now past e.now }
+pub fn resets_deposited(log: &Log, e: &Event) -> bool
+    requires { IsNamed log.now.guest e.now }
+    ensures { result ≡ resets_deposited log.now.guest log.now.past e.now }
 {
     match e {
         Event::Reset { v, k } => {
-            let row = replay.vcpus.row(*v);
-            let deposited = is_deposited(guest, replay, *v, *k);
-            *k == row.resets && deposited
+            let resets = log.resets(*v);
+            let deposited = log.deposited(*v, *k);
+            *k == resets && deposited
         }
         _ => true,
     }

@@ -1,4 +1,4 @@
-//! The rules of a legal history, judged by what is kept of the events so far.
+//! The rules of a legal history, judged by what a log tells of the events so far.
 #![tactic(auto)]
 
 mod answers;
@@ -13,10 +13,5 @@ mod protection;
 mod rounds;
 mod throttles;
 
-pub use answers::dirty_numbers;
-pub use deposits::is_deposited;
 pub use judge::broken;
-pub use memory::loaded_at;
-pub use paces::some_closing;
-pub use rounds::{answered_count, next_copied, round_copied};
-pub use throttles::{may_end, throttle_due};
+pub use throttles::may_end;

@@ -1,39 +1,18 @@
-ghost use Rattle.std.specs.Prelude.{◌≡◌, ◌%◌, List, IfSome};
-ghost use Rattle.dr_types.specs.Pages.{page_of_address};
-ghost use Rattle.dr_history.specs.Memory.{page_bytes, loaded};
-ghost use Rattle.dr_history.specs.declared.event.Event.{Event};
+ghost use Rattle.std.specs.Prelude.{◌≡◌};
 ghost use Rattle.dr_history.specs.Rules.{reads_memory};
-ghost use Rattle.dr_state.specs.Whole.{IsReplay};
-ghost use Rattle.dr_rules.specs.Sizes.{IsSized};
 
 use dr_history::Event;
+use dr_log::Log;
 use dr_slots::page_of_address;
-use dr_state::Replay;
-use dr_types::Guest;
-
-/// The eight bytes from an address on, as a number; zero where the address lies in no slot.
-pub fn loaded_at(guest: &Guest, replay: &Replay, address: u64) -> u64
-    requires { IsSized guest.now replay.now }
-    ensures { (past : List Event) → IsReplay guest.now past replay.now
-        → IfSome (page_of_address guest.now address) (λ page.
-        result ≡ loaded (page_bytes guest.now page past) (address % 4096)) }
-{
-    match page_of_address(guest, address) {
-        Some(page) => replay.load(page, (address % 4096) as u32),
-        None => 0,
-    }
-}
 
 /// Rule 5: a Read gives what memory has.
 #[tactic(auto, unfolding(dr_history::specs::Rules::reads_memory))]
-pub fn reads_memory(guest: &Guest, replay: &Replay, e: &Event) -> bool
-    requires { IsSized guest.now replay.now }
-    ensures { (past : List Event) → IsReplay guest.now past replay.now
-        → result ≡ reads_memory guest.now past e.now }
+pub fn reads_memory(log: &Log, e: &Event) -> bool
+    ensures { result ≡ reads_memory log.now.guest log.now.past e.now }
 {
     match e {
-        Event::Read { addr, value, .. } => match page_of_address(guest, *addr) {
-            Some(page) => { *value == replay.load(page, (*addr % 4096) as u32) }
+        Event::Read { addr, value, .. } => match page_of_address(log.guest(), *addr) {
+            Some(page) => *value == log.load(page, (*addr % 4096) as u32),
             None => false,
         },
         _ => true,

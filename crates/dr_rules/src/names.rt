@@ -4,6 +4,7 @@ ghost use Rattle.dr_types.specs.Pages.{page_count};
 ghost use Rattle.dr_history.specs.Rules.{writes_page, is_vcpu, in_one_page, is_page, write_follows, names_exist};
 
 use dr_history::Event;
+use dr_log::Log;
 use dr_slots::page_of_address;
 use dr_types::Guest;
 
@@ -19,9 +20,9 @@ fn writes_page(guest: &Guest, v: u32, page: u32, e: &Event) -> bool
     }
 }
 
-/// Rule 1: behind an Opened or a Filled comes the write that it is for.
+/// The event is the write that an Opened or a Filled at the end is for.
 #[tactic(auto, unfolding(dr_history::specs::Rules::write_follows))]
-pub fn write_follows(guest: &Guest, events: &[Event], e: &Event) -> bool
+fn follows_last(guest: &Guest, events: &[Event], e: &Event) -> bool
     requires { page_count guest.now < 2 ^ 32 }
     ensures { result ≡ write_follows guest.now (reverse events.now) e.now }
 {
@@ -30,6 +31,13 @@ pub fn write_follows(guest: &Guest, events: &[Event], e: &Event) -> bool
         Some(Event::Filled { v, page }) => writes_page(guest, *v, *page, e),
         _ => true,
     }
+}
+
+/// Rule 1: behind an Opened or a Filled comes the write that it is for.
+pub fn write_follows(log: &Log, e: &Event) -> bool
+    ensures { result ≡ write_follows log.now.guest log.now.past e.now }
+{
+    follows_last(log.guest(), log.events(), e)
 }
 
 fn is_vcpu(guest: &Guest, v: u32) -> bool
@@ -59,10 +67,11 @@ fn are_pages(guest: &Guest, count: u32, pages: &[u32]) -> bool
 
 /// Rule 2: each vCPU and page named is one of the guest, and bytes lie in one page.
 #[tactic(auto, unfolding(dr_history::specs::Rules::names_exist))]
-pub fn names_exist(guest: &Guest, count: u32, events: &[Event], e: &Event) -> bool
-    requires { count ≡ page_count guest.now }
-    ensures { result ≡ names_exist guest.now (reverse events.now) e.now }
+pub fn names_exist(log: &Log, e: &Event) -> bool
+    ensures { result ≡ names_exist log.now.guest log.now.past e.now }
 {
+    let guest = log.guest();
+    let count = log.pages();
     match e {
         Event::Read { v, addr, .. } => is_vcpu(guest, *v) && in_one_page(guest, *addr, 8),
         Event::Write { v, addr, len, .. } => is_vcpu(guest, *v) && in_one_page(guest, *addr, *len),

@@ -1,122 +1,29 @@
-ghost use Rattle.std.specs.Prelude.{◌≡◌, ◌<◌, List};
-ghost use Rattle.std.specs.List.{list_any, list_all};
-ghost use Rattle.dr_types.specs.Pages.{page_count};
-ghost use Rattle.dr_history.specs.declared.event.Event.{Event};
-ghost use Rattle.dr_history.specs.Lookback.{since, before, below};
-ghost use Rattle.dr_history.specs.Kinds.{is_asked};
-ghost use Rattle.dr_history.specs.Protection.{closing};
-ghost use Rattle.dr_history.specs.Rounds.{is_reset_in};
-ghost use Rattle.dr_history.specs.Vcpus.{all_paced, some_kicked};
+ghost use Rattle.std.specs.Prelude.{◌≡◌};
 ghost use Rattle.dr_history.specs.Rules.{flush_has_cause, starts_paced};
-ghost use Rattle.dr_state.specs.Whole.{IsReplay};
-ghost use Rattle.dr_rules.specs.Tests.{row_paced, row_paced_recently, row_kicked, row_covered};
 
 use dr_history::Event;
-use dr_state::{Replay, Vcpu};
-use dr_types::Guest;
-
-fn rows_paced(rows: &[Vcpu], pace: u32) -> bool
-    ensures { result ≡ list_all (row_paced pace) rows.now }
-{
-    let mut all = true;
-    for row in rows {
-        all = all && (u64::from(pace) <= row.ops || row.halted);
-    }
-    all
-}
-
-/// Each vCPU has executed enough, or has halted.
-fn all_paced(guest: &Guest, replay: &Replay) -> bool
-    ensures { (past : List Event) → IsReplay guest.now past replay.now
-        → result ≡ all_paced guest.now past past }
-{
-    rows_paced(replay.vcpus.as_slice(), guest.settings.pace)
-}
-
-fn rows_paced_recently(rows: &[Vcpu], pace: u32) -> bool
-    ensures { result ≡ list_all (row_paced_recently pace) rows.now }
-{
-    let mut all = true;
-    for row in rows {
-        all = all && (u64::from(pace) <= row.recent || row.halted);
-    }
-    all
-}
-
-/// Each vCPU has executed enough since the last Asked, or has halted.
-pub fn all_paced_recently(guest: &Guest, replay: &Replay) -> bool
-    ensures { (past : List Event) → IsReplay guest.now past replay.now
-        → result ≡ all_paced guest.now (since is_asked past) past }
-{
-    rows_paced_recently(replay.vcpus.as_slice(), guest.settings.pace)
-}
-
-fn rows_kicked(rows: &[Vcpu]) -> bool
-    ensures { result ≡ list_any row_kicked rows.now }
-{
-    let mut found = false;
-    for row in rows {
-        found = found || row.kicked;
-    }
-    found
-}
-
-/// Some vCPU is kicked.
-pub fn some_kicked(guest: &Guest, replay: &Replay) -> bool
-    ensures { (past : List Event) → IsReplay guest.now past replay.now
-        → result ≡ some_kicked guest.now past }
-{
-    rows_kicked(replay.vcpus.as_slice())
-}
-
-fn rows_covered(rows: &[Vcpu]) -> bool
-    ensures { result ≡ list_all row_covered rows.now }
-{
-    let mut all = true;
-    for row in rows {
-        all = all && row.asked_opens <= row.resets;
-    }
-    all
-}
-
-/// Each entry that was opened before the last Asked is reset.
-pub fn all_covered(guest: &Guest, replay: &Replay) -> bool
-    ensures { (past : List Event) → IsReplay guest.now past replay.now
-        → result ≡ list_all (is_reset_in past) (before is_asked past) }
-{
-    rows_covered(replay.vcpus.as_slice())
-}
-
-/// Some page is closing.
-pub fn some_closing(guest: &Guest, replay: &Replay) -> bool
-    ensures { (past : List Event) → IsReplay guest.now past replay.now
-        → result ≡ list_any (λ page. closing page past) (below (page_count guest.now)) }
-{
-    replay.protection.closing.any()
-}
+use dr_log::Log;
 
 /// Rule 17: a flush comes where a page is closing.
 #[tactic(auto, unfolding(dr_history::specs::Rules::flush_has_cause))]
-pub fn flush_has_cause(guest: &Guest, replay: &Replay, e: &Event) -> bool
-    ensures { (past : List Event) → IsReplay guest.now past replay.now
-        → result ≡ flush_has_cause guest.now past e.now }
+pub fn flush_has_cause(log: &Log, e: &Event) -> bool
+    ensures { result ≡ flush_has_cause log.now.guest log.now.past e.now }
 {
     match e {
-        Event::Flushed => some_closing(guest, replay),
+        Event::Flushed => log.has_closing(),
         _ => true,
     }
 }
 
 /// Rule 18: logging starts once, when each vCPU is paced.
 #[tactic(auto, unfolding(dr_history::specs::Rules::starts_paced))]
-pub fn starts_paced(guest: &Guest, replay: &Replay, e: &Event) -> bool
-    ensures { (past : List Event) → IsReplay guest.now past replay.now
-        → result ≡ starts_paced guest.now past e.now }
+pub fn starts_paced(log: &Log, e: &Event) -> bool
+    ensures { result ≡ starts_paced log.now.guest log.now.past e.now }
 {
     match e {
         Event::Start { .. } => {
-            let paced = all_paced(guest, replay);
-            !replay.rounds.started && paced
+            let paced = log.all_paced();
+            !log.started() && paced
         }
         _ => true,
     }

@@ -11,7 +11,7 @@ ghost use Rattle.dr_run.specs.Execution.{HasEnded, HaveRun, IsRunning, MayExecut
 ghost use Rattle.dr_run.specs.Going.{GetsCut, Goes, IsFault, StaysSent};
 
 use crate::run::{Run, RunFault};
-use dr_core::Core;
+use dr_log::Log;
 use dr_history::Event;
 use dr_io::Outlet;
 use dr_slots::page_of_frame;
@@ -19,13 +19,13 @@ use dr_types::{Guest, Op, Why};
 
 /// How many ops a vCPU has executed.
 #[tactic(auto, using(crate::proofs::Limits::few_ops))]
-fn ops_done(core: &Core, v: u32) -> u32
-    requires { v < vcpu_count core.now.guest }
-    ensures { result ≡ ops v core.now.past }
+fn ops_done(log: &Log, v: u32) -> u32
+    requires { v < vcpu_count log.now.guest }
+    ensures { result ≡ ops v log.now.past }
 {
-    let _guest = core.guest();
-    let _history = core.history();
-    core.ops(v) as u32
+    let _guest = log.guest();
+    let _history = log.history();
+    log.ops(v) as u32
 }
 
 /// The page of a frame that an op fills.
@@ -43,21 +43,21 @@ fn filled_page(guest: &Guest, gfn: u64) -> u32
 
 /// The value that an op loads from an address.
 #[tactic(auto, using(crate::proofs::Limits::lies_in_one_page, crate::proofs::Limits::value_is))]
-fn value_loaded(core: &Core, addr: u64) -> u64
-    requires { IsOpOrHalt core.now.guest.slots (Op.R addr) }
-    ensures { result ≡ value_at core.now.guest core.now.past addr }
+fn value_loaded(log: &Log, addr: u64) -> u64
+    requires { IsOpOrHalt log.now.guest.slots (Op.R addr) }
+    ensures { result ≡ value_at log.now.guest log.now.past addr }
 {
-    core.loaded(addr)
+    log.loaded(addr)
 }
 
 /// The event of the vCPU's op of this number.
-fn event_of(core: &Core, v: u32, op: Op) -> Event
-    requires vcpu { v < vcpu_count core.now.guest }
-    requires fits { IsOpOrHalt core.now.guest.slots op }
-    ensures is { result ≡ op_event core.now.guest v core.now.past op }
+fn event_of(log: &Log, v: u32, op: Op) -> Event
+    requires vcpu { v < vcpu_count log.now.guest }
+    requires fits { IsOpOrHalt log.now.guest.slots op }
+    ensures is { result ≡ op_event log.now.guest v log.now.past op }
     ensures fits { FitsLine result }
 {
-    let i = ops_done(core, v);
+    let i = ops_done(log, v);
     match op {
         Op::W { addr, len, value } => Event::Write {
             v,
@@ -69,21 +69,21 @@ fn event_of(core: &Core, v: u32, op: Op) -> Event
         Op::F { gfn, byte } => Event::Paint {
             v,
             i,
-            page: filled_page(core.guest(), gfn),
+            page: filled_page(log.guest(), gfn),
             byte,
         },
         Op::R { addr } => Event::Read {
             v,
             i,
             addr,
-            value: value_loaded(core, addr),
+            value: value_loaded(log, addr),
         },
         Op::S { addr } => Event::Write {
             v,
             i,
             addr,
             len: 8,
-            value: core.register(v),
+            value: log.register(v),
         },
         Op::A { .. } | Op::Nap { .. } => Event::Local { v, i },
         Op::Halt => Event::Halted { v, i },
@@ -91,16 +91,16 @@ fn event_of(core: &Core, v: u32, op: Op) -> Event
 }
 
 /// The event of the op that a vCPU executes next; `None` where its script is at its end.
-fn next_event(core: &Core, v: u32) -> Option<Event>
-    requires vcpu { v < vcpu_count core.now.guest }
-    requires running { IsRunning core.now.guest core.now.past v }
-    ensures next { IfSome result (MayExecute core.now.guest core.now.past v) }
-    ensures end { result ≡ None → HasEnded core.now.guest core.now.past v }
+fn next_event(log: &Log, v: u32) -> Option<Event>
+    requires vcpu { v < vcpu_count log.now.guest }
+    requires running { IsRunning log.now.guest log.now.past v }
+    ensures next { IfSome result (MayExecute log.now.guest log.now.past v) }
+    ensures end { result ≡ None → HasEnded log.now.guest log.now.past v }
 {
-    let _guest = core.guest();
-    let _history = core.history();
-    let op = core.next_op(v)?;
-    Some(event_of(core, v, op))
+    let _guest = log.guest();
+    let _history = log.history();
+    let op = log.next_op(v)?;
+    Some(event_of(log, v, op))
 }
 
 impl<O: Outlet> Run<O> {
@@ -136,7 +136,7 @@ impl<O: Outlet> Run<O> {
         ensures pages { self.new.pages ≡ self.old.pages }
         ensures fault { IfErr result (IsFault self.old.faults self.new.faults) }
     {
-        while let Some(event) = next_event(&self.core, v) {
+        while let Some(event) = next_event(&self.log, v) {
             self.take(event)?;
         }
         self.leave(v)
@@ -154,7 +154,7 @@ impl<O: Outlet> Run<O> {
         ensures pages { self.new.pages ≡ self.old.pages }
         ensures fault { IfErr result (IsFault self.old.faults self.new.faults) }
     {
-        for v in 0..self.core.vcpus() {
+        for v in 0..self.log.vcpus() {
             self.run_vcpu(v)?;
         }
         Ok(())

@@ -8,7 +8,7 @@ ghost use Rattle.dr_run.specs.Execution.{AllLeft};
 ghost use Rattle.dr_run.specs.Going.{IsFault, ends_switched};
 
 use crate::run::{Run, RunFault};
-use dr_core::Core;
+use dr_log::Log;
 use dr_io::{Clock, Outlet, Port};
 use dr_stream::Sender;
 use dr_types::Guest;
@@ -17,7 +17,7 @@ use std::alloc::Global;
 /// How a run ended: the keeper of its history, or why there is none to its end; and the outlet.
 #[derive(Drop)]
 pub struct RunEnd<O: Outlet> {
-    pub end: Result<Core, RunFault>,
+    pub end: Result<Log, RunFault>,
     pub out: O,
 }
 
@@ -32,20 +32,20 @@ pub fn run_halting<O: Outlet, C: Clock>(
 ) -> RunEnd<O>
     requires valid { IsValid guest.now }
     requires built { is_built_for guest.now ≡ true }
-    ensures guest { IfOk result.end (λ core. core.guest ≡ guest.now) }
-    ensures history { IfOk result.end (λ core.
-        IsHistoryOf (C.reads clock.now) guest.now core.past) }
-    ensures switched { IfOk result.end (λ core. ends_switched core.past ≡ true) }
-    ensures left { IfOk result.end (λ core. AllLeft guest.now core.past) }
-    ensures sent { IfOk result.end (λ core. O.told result.out
-        ≡ put_at Port.Stream (stream_of guest.now core.past) (O.told out)) }
+    ensures guest { IfOk result.end (λ log. log.guest ≡ guest.now) }
+    ensures history { IfOk result.end (λ log.
+        IsHistoryOf (C.reads clock.now) guest.now log.past) }
+    ensures switched { IfOk result.end (λ log. ends_switched log.past ≡ true) }
+    ensures left { IfOk result.end (λ log. AllLeft guest.now log.past) }
+    ensures sent { IfOk result.end (λ log. O.told result.out
+        ≡ put_at Port.Stream (stream_of guest.now log.past) (O.told out)) }
     ensures cut { OnErr result.end
         (HasEndedEarly (C.reads clock.now) guest.now (O.told out) (O.told result.out)) }
     ensures later { O.faults out ≤ O.faults result.out }
     ensures fault { IfErr result.end (IsFault (O.faults out) (O.faults result.out)) }
 {
-    let core = match Core::new(alloc, guest) {
-        Ok(core) => core,
+    let log = match Log::new(alloc, guest) {
+        Ok(log) => log,
         Err(_) => {
             return RunEnd {
                 end: Err(RunFault::Memory),
@@ -55,15 +55,15 @@ pub fn run_halting<O: Outlet, C: Clock>(
     };
     let mut run = Run {
         alloc,
-        core,
+        log,
         sender: Sender::new(out),
     };
     let end = run.migrate(clock);
-    let _history = run.core.history();
+    let _history = run.log.history();
     let out = run.sender.into_outlet();
     match end {
         Ok(()) => RunEnd {
-            end: Ok(run.core),
+            end: Ok(run.log),
             out,
         },
         Err(fault) => RunEnd {

@@ -12,7 +12,7 @@ ghost use Rattle.dr_run.specs.Going.{GetsCut, Goes, IsFault, MayAddTime, StaysSe
 ghost use Rattle.dr_run.specs.Rounds.{AllCopied, HasAnswered, IsAnswer, IsAsked, IsBetween, IsCopying, IsFew, IsGoing, IsNext, IsStopped, IsTurn, SameRound};
 
 use crate::run::{Run, RunFault};
-use dr_core::Core;
+use dr_log::Log;
 use dr_history::Event;
 use dr_io::{Clock, Outlet, PutTurn};
 
@@ -29,22 +29,22 @@ fn sent(turn: PutTurn) -> Result<(), RunFault>
 }
 
 /// The page of the open round that is copied next; `None` where all are copied.
-fn next_page(core: &Core, r: u32) -> Option<u32>
-    requires { IsCopying core.now.guest core.now.past r }
-    ensures next { IfSome result (IsNext core.now.guest core.now.past r) }
-    ensures end { result ≡ None → AllCopied core.now.past }
+fn next_page(log: &Log, r: u32) -> Option<u32>
+    requires { IsCopying log.now.guest log.now.past r }
+    ensures next { IfSome result (IsNext log.now.guest log.now.past r) }
+    ensures end { result ≡ None → AllCopied log.now.past }
 {
-    let _history = core.history();
-    core.next_copy()
+    let _history = log.history();
+    log.next_copy()
 }
 
 /// Where the pages of a round are copied no page is dirty, since no vCPU runs.
-fn none_is_dirty(core: &Core, r: u32)
-    requires copying { IsCopying core.now.guest core.now.past r }
-    requires copied { AllCopied core.now.past }
-    ensures { dirty_pages core.now.guest core.now.past ≡ [] }
+fn none_is_dirty(log: &Log, r: u32)
+    requires copying { IsCopying log.now.guest log.now.past r }
+    requires copied { AllCopied log.now.past }
+    ensures { dirty_pages log.now.guest log.now.past ≡ [] }
 {
-    let _history = core.history();
+    let _history = log.history();
 }
 
 impl<O: Outlet> Run<O> {
@@ -61,8 +61,8 @@ impl<O: Outlet> Run<O> {
         ensures pages { self.new.pages ≡ self.old.pages }
         ensures fault { IfErr result (IsFault self.old.faults self.new.faults) }
     {
-        self.core.append(Event::Start { at: now })?;
-        let pages = self.core.pages();
+        self.log.append(Event::Start { at: now })?;
+        let pages = self.log.pages();
         sent(self.sender.header(pages))
     }
 
@@ -71,8 +71,8 @@ impl<O: Outlet> Run<O> {
         ensures { let threshold = self.now.guest.settings.threshold in
             result ≡ (nat_lt threshold count || stopped self.now.past) }
     {
-        let many = count > self.core.guest().settings.threshold as usize;
-        let stopped = self.core.stopped();
+        let many = count > self.log.guest().settings.threshold as usize;
+        let stopped = self.log.stopped();
         many || stopped
     }
 
@@ -104,10 +104,10 @@ impl<O: Outlet> Run<O> {
         ensures pages { self.new.pages ≡ self.old.pages }
         ensures fault { IfErr result (IsFault self.old.faults self.new.faults) }
     {
-        let pages = self.core.dirty_pages(self.alloc)?;
+        let pages = self.log.dirty_pages(self.alloc)?;
         let count = pages.len();
         let opens = self.would_open(count);
-        self.core.append(Event::Synced { r, at: now, pages })?;
+        self.log.append(Event::Synced { r, at: now, pages })?;
         if opens {
             sent(self.sender.round(r))?;
         }
@@ -147,8 +147,8 @@ impl<O: Outlet> Run<O> {
         ensures pages { OnOk result (self.new.pages ≡ self.old.pages + 1) }
         ensures fault { IfErr result (IsFault self.old.faults self.new.faults) }
     {
-        self.core.append(Event::Copied { r, page })?;
-        sent(self.sender.page(page, self.core.page(page)))
+        self.log.append(Event::Copied { r, page })?;
+        sent(self.sender.page(page, self.log.page(page)))
     }
 
     /// All pages of the open round are copied.
@@ -166,7 +166,7 @@ impl<O: Outlet> Run<O> {
         ensures pages { OnOk result (self.new.pages ≤ self.old.pages + page_count self.old.guest) }
         ensures fault { IfErr result (IsFault self.old.faults self.new.faults) }
     {
-        while let Some(page) = next_page(&self.core, r) {
+        while let Some(page) = next_page(&self.log, r) {
             self.copy(r, page)?;
         }
         Ok(())
@@ -186,7 +186,7 @@ impl<O: Outlet> Run<O> {
         ensures times { times self.new.past ≡ times self.old.past }
         ensures fault { IfErr result (IsFault self.old.faults self.new.faults) }
     {
-        self.core.append(Event::Switched)?;
+        self.log.append(Event::Switched)?;
         sent(self.sender.finish())
     }
 
@@ -243,11 +243,11 @@ impl<O: Outlet> Run<O> {
         ensures fault { IfErr result (IsFault self.old.faults self.new.faults) }
     {
         let count = self.synchronise(1, clock.now_us())?;
-        if count <= self.core.guest().settings.threshold as usize {
+        if count <= self.log.guest().settings.threshold as usize {
             return Ok(2);
         }
         self.copy_round(1)?;
-        none_is_dirty(&self.core, 1);
+        none_is_dirty(&self.log, 1);
         let _none = self.synchronise(2, clock.now_us())?;
         Ok(3)
     }

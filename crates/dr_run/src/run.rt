@@ -4,7 +4,7 @@ ghost use Rattle.dr_history.specs.Times.{times};
 ghost use Rattle.dr_may.specs.May.{MayFollow};
 ghost use Rattle.dr_run.specs.Going.{Going, Goes, GetsCut, IsFault, IsSilent, StaysSent, is_unlogged};
 
-use dr_core::Core;
+use dr_log::Log;
 use dr_history::Event;
 use dr_io::Outlet;
 use dr_stream::Sender;
@@ -36,7 +36,7 @@ impl From<Memory> for RunFault {
 #[derive(Drop)]
 pub struct Run<O: Outlet> {
     pub(crate) alloc: Global,
-    pub(crate) core: Core,
+    pub(crate) log: Log,
     pub(crate) sender: Sender<O>,
 }
 
@@ -46,8 +46,8 @@ impl<O: Outlet> Model for Run<O> {
     ghost Value = { Going };
 
     ghost view = { λ r. record {
-      guest = r.core.guest;
-      past = r.core.past;
+      guest = r.log.guest;
+      past = r.log.past;
       told = r.sender.told;
       faults = r.sender.faults;
       pages = r.sender.pages;
@@ -70,7 +70,7 @@ impl<O: Outlet> Run<O> {
         ensures pages { self.new.pages ≡ self.old.pages }
         ensures fault { IfErr result (IsFault self.old.faults self.new.faults) }
     {
-        self.core.append(e)?;
+        self.log.append(e)?;
         Ok(())
     }
 }

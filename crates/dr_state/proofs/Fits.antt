@@ -76,7 +76,7 @@ unfolding rows_of
 rooms rows n past is few = subst (λ (xs : List Vcpu). All HasRoom xs) (sym is) (all_table HasRoom (row_of past) n (λ v lt. row_room past v few))
 
 -- the vCPU and the page that an event names are in the guest
-vcpu_within : (guest : Guest) (past : List Event) (e : Event) → names_exist guest past e ≡ true → IsWithin (vcpu_count guest) e
+pub vcpu_within : (guest : Guest) (past : List Event) (e : Event) → names_exist guest past e ≡ true → IsWithin (vcpu_count guest) e
 unfolding names_exist
 vcpu_within guest past (Read v i a x) h = ltb-true v (vcpu_count guest) (and_parts _ _ h).0
 vcpu_within guest past (Write v i a l x) h = ltb-true v (vcpu_count guest) (and_parts _ _ h).0
@@ -92,7 +92,7 @@ vcpu_within guest past (Reset v k) h = ltb-true v (vcpu_count guest) h
 vcpu_within guest past (Throttled v us) h = ltb-true v (vcpu_count guest) h
 vcpu_within guest past e h = tt
 
-page_within : (guest : Guest) (past : List Event) (e : Event) → names_exist guest past e ≡ true → IsPageWithin (page_count guest) e
+pub page_within : (guest : Guest) (past : List Event) (e : Event) → names_exist guest past e ≡ true → IsPageWithin (page_count guest) e
 unfolding names_exist
 page_within guest past (Paint v i q b) h = ltb-true q (page_count guest) (and_parts _ _ h).1
 page_within guest past (Opened v k page) h = ltb-true page (page_count guest) (and_parts _ _ h).1

@@ -4,7 +4,7 @@ use Rattle.dr_plain.proofs.ending.put_rest.Goals as goal
 
 pub returns-clause-cut : goal.returns-clause-cut
 returns-clause-cut g c =
-    let core = c.args.core.now in
+    let log = c.args.log.now in
     on_err_weaker c.put_journal.result
-    (journal_cut core.guest core.past (g.O.Outlet.told c.args.out.now) (g.O.Outlet.told c.put_image.new.out) (g.O.Outlet.told c.put_report.new.out) (g.O.Outlet.told c.put_journal.new.out)
+    (journal_cut log.guest log.past (g.O.Outlet.told c.args.out.now) (g.O.Outlet.told c.put_image.new.out) (g.O.Outlet.told c.put_report.new.out) (g.O.Outlet.told c.put_journal.new.out)
     c.in_ok-put_image.ensures.done c.in_ok-put_report.ensures.done) c.put_journal.ensures.cut

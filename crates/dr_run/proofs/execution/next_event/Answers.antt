@@ -11,25 +11,25 @@ use Rattle.dr_run.proofs.execution.next_event.Goals as goal
 
 pub event_of-requires-clause-fits : goal.event_of-requires-clause-fits
 event_of-requires-clause-fits c =
-    let core = c.args.core.now in
-    let valid : IsValid core.guest = subst IsValid c.guest-guest.ensures.is c.guest-guest.ensures.valid in
-    let fits : IfSome (operation core.guest c.args.v (ops c.args.v core.past)) (IsOpOrHalt core.guest.slots) =
-    op_fits core.guest c.args.v (ops c.args.v core.past) valid in
-    let is : operation core.guest c.args.v (ops c.args.v core.past) ≡ Some c.in_ok-op.op = sym c.next_op.ensures ∙ c.in_ok-op.was in
+    let log = c.args.log.now in
+    let valid : IsValid log.guest = subst IsValid c.guest-guest.ensures.is c.guest-guest.ensures.valid in
+    let fits : IfSome (operation log.guest c.args.v (ops c.args.v log.past)) (IsOpOrHalt log.guest.slots) =
+    op_fits log.guest c.args.v (ops c.args.v log.past) valid in
+    let is : operation log.guest c.args.v (ops c.args.v log.past) ≡ Some c.in_ok-op.op = sym c.next_op.ensures ∙ c.in_ok-op.was in
     rw is at fits
 
 pub returns-in_err-op-clause-end : goal.returns-in_err-op-clause-end
 returns-in_err-op-clause-end c none =
-    let core = c.args.core.now in
-    let valid : IsValid core.guest = subst IsValid c.guest-guest.ensures.is c.guest-guest.ensures.valid in
-    let legal : IsLegalSoFar core.guest core.past = subst (IsLegalSoFar core.guest) c.history-history.ensures.past c.history-history.ensures.legal in
-    has_ended core.guest core.past c.args.v valid legal c.requires.vcpu c.requires.running (sym c.next_op.ensures ∙ c.in_err-op.was)
+    let log = c.args.log.now in
+    let valid : IsValid log.guest = subst IsValid c.guest-guest.ensures.is c.guest-guest.ensures.valid in
+    let legal : IsLegalSoFar log.guest log.past = subst (IsLegalSoFar log.guest) c.history-history.ensures.past c.history-history.ensures.legal in
+    has_ended log.guest log.past c.args.v valid legal c.requires.vcpu c.requires.running (sym c.next_op.ensures ∙ c.in_err-op.was)
 
 pub returns-clause-next : goal.returns-clause-next
 returns-clause-next c =
-    let core = c.args.core.now in
-    let valid : IsValid core.guest = subst IsValid c.guest-guest.ensures.is c.guest-guest.ensures.valid in
-    let fits : IfSome (operation core.guest c.args.v (ops c.args.v core.past)) (IsOpOrHalt core.guest.slots) =
-    op_fits core.guest c.args.v (ops c.args.v core.past) valid in
-    let is : operation core.guest c.args.v (ops c.args.v core.past) ≡ Some c.in_ok-op.op = sym c.next_op.ensures ∙ c.in_ok-op.was in
-    may_execute core.guest core.past c.args.v c.in_ok-op.op c.event_of.result valid c.requires.vcpu c.requires.running is (rw is at fits) c.event_of.ensures.is c.event_of.ensures.fits
+    let log = c.args.log.now in
+    let valid : IsValid log.guest = subst IsValid c.guest-guest.ensures.is c.guest-guest.ensures.valid in
+    let fits : IfSome (operation log.guest c.args.v (ops c.args.v log.past)) (IsOpOrHalt log.guest.slots) =
+    op_fits log.guest c.args.v (ops c.args.v log.past) valid in
+    let is : operation log.guest c.args.v (ops c.args.v log.past) ≡ Some c.in_ok-op.op = sym c.next_op.ensures ∙ c.in_ok-op.was in
+    may_execute log.guest log.past c.args.v c.in_ok-op.op c.event_of.result valid c.requires.vcpu c.requires.running is (rw is at fits) c.event_of.ensures.is c.event_of.ensures.fits

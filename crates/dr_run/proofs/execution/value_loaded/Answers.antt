@@ -2,4 +2,4 @@ use Rattle.dr_run.proofs.Limits.{value_is}
 use Rattle.dr_run.proofs.execution.value_loaded.Goals as goal
 
 pub returns : goal.returns
-returns c = value_is c.args.core.now.guest c.args.core.now.past c.args.addr c.loaded.result c.requires.1 c.loaded.ensures
+returns c = value_is c.args.log.now.guest c.args.log.now.past c.args.addr c.loaded.result c.requires.1 c.loaded.ensures

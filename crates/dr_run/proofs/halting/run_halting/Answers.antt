@@ -2,7 +2,7 @@ use Rattle.std.proofs.Common.{refl, ap, sym, subst, ◌∙◌}
 use Rattle.std.specs.Prelude.{All}
 use Rattle.dr_history.specs.Legality.{IsLegalSoFar}
 use Rattle.dr_history.specs.Lines.{FitsLine}
-use Rattle.dr_core.specs.State.{State}
+use Rattle.dr_log.specs.State.{State}
 use Rattle.dr_stream.specs.Sending.{Sending}
 use Rattle.dr_run.specs.Ended.{HasEndedEarly}
 use Rattle.dr_run.specs.Going.{Going, IsUnlogged}
@@ -16,7 +16,7 @@ returns-in-Err-clause-cut g c = none_done (g.C.Clock.reads c.args.clock.now) c.a
 pub returns-in-Err-end-clause-cut : goal.returns-in-Err-end-clause-cut
 returns-in-Err-end-clause-cut g c =
     let it = c.migrate-end.new.self in
-    let legal = subst (λ (s : Going). IsLegalSoFar s.guest s.past) c.run.view_is (subst (IsLegalSoFar c.run.inside.core.guest) c.history-history.ensures.past c.history-history.ensures.legal) in
+    let legal = subst (λ (s : Going). IsLegalSoFar s.guest s.past) c.run.view_is (subst (IsLegalSoFar c.run.inside.log.guest) c.history-history.ensures.past c.history-history.ensures.legal) in
     let fits = subst (λ (s : Going). All FitsLine s.past) c.run.view_is (subst (All FitsLine) c.history-history.ensures.past c.history-history.ensures.fit) in
     let told = c.into_outlet-out.ensures.told ∙ ap (λ (s : Going). s.told) c.run.view_is in
     let ended = c.in-Err-end.ensures in

@@ -5,12 +5,12 @@ use Rattle.dr_run.proofs.migration.next_page.Goals as goal
 
 pub returns-clause-next : goal.returns-clause-next
 returns-clause-next c =
-    let core = c.args.core.now in
-    let legal : IsLegalSoFar core.guest core.past = subst (IsLegalSoFar core.guest) c.history-history.ensures.past c.history-history.ensures.legal in
-    next_is core.guest core.past c.args.r c.next_copy.result legal c.requires c.next_copy.ensures
+    let log = c.args.log.now in
+    let legal : IsLegalSoFar log.guest log.past = subst (IsLegalSoFar log.guest) c.history-history.ensures.past c.history-history.ensures.legal in
+    next_is log.guest log.past c.args.r c.next_copy.result legal c.requires c.next_copy.ensures
 
 pub returns-clause-end : goal.returns-clause-end
 returns-clause-end c none =
-    let core = c.args.core.now in
-    let legal : IsLegalSoFar core.guest core.past = subst (IsLegalSoFar core.guest) c.history-history.ensures.past c.history-history.ensures.legal in
-    none_next core.guest core.past legal (sym c.next_copy.ensures ∙ none)
+    let log = c.args.log.now in
+    let legal : IsLegalSoFar log.guest log.past = subst (IsLegalSoFar log.guest) c.history-history.ensures.past c.history-history.ensures.legal in
+    none_next log.guest log.past legal (sym c.next_copy.ensures ∙ none)

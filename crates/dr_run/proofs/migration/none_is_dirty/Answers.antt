@@ -5,6 +5,6 @@ use Rattle.dr_run.proofs.migration.none_is_dirty.Goals as goal
 
 pub returns : goal.returns
 returns c =
-    let core = c.args.core.now in
-    let legal : IsLegalSoFar core.guest core.past = subst (IsLegalSoFar core.guest) c.history-history.ensures.past c.history-history.ensures.legal in
-    clean core.guest core.past c.args.r legal c.requires.copying c.requires.copied
+    let log = c.args.log.now in
+    let legal : IsLegalSoFar log.guest log.past = subst (IsLegalSoFar log.guest) c.history-history.ensures.past c.history-history.ensures.legal in
+    clean log.guest log.past c.args.r legal c.requires.copying c.requires.copied

@@ -16,7 +16,7 @@ returns-in_err-sent-clause-cut g c =
     let opens = subst (λ (it : Going). (nat_lt it.guest.settings.threshold c.len-count.result || stopped it.past) ≡ true) (sym c.self.view_is)
     (sym c.would_open-opens.ensures ∙ c.if-opens.true) in
     record {
-      length = length (stream_of c.self.inside.core.guest c.self.inside.core.past) + part.0;
+      length = length (stream_of c.self.inside.log.guest c.self.inside.log.past) + part.0;
       told = told_cut _ _ _ _ (Synced c.args.r c.args.now c.in_ok-pages.pages) _ start _ _ part.0 c.in_ok-append.ensures.taken c.append.ensures.guest
-          (opened_record c.self.inside.core.guest c.self.inside.core.past c.args.r c.args.now c.in_ok-pages.pages c.len-count.result c.len-count.ensures opens) sent.told part.1;
+          (opened_record c.self.inside.log.guest c.self.inside.log.past c.args.r c.args.now c.in_ok-pages.pages c.len-count.result c.len-count.ensures opens) sent.told part.1;
     })

@@ -17,7 +17,7 @@ returns-clause-cut g c =
     let sent = subst (IsSent start) (sym c.self.view_is) was in
     let part = c.header.ensures.puts.failed failed in
     record {
-      length = length (stream_of c.self.inside.core.guest c.self.inside.core.past) + part.0;
+      length = length (stream_of c.self.inside.log.guest c.self.inside.log.past) + part.0;
       told = told_cut _ _ _ _ (Start c.args.now) _ start _ _ part.0 c.in_ok-append.ensures.taken c.append.ensures.guest
           (ap header (c.pages-pages.ensures ∙ ap page_count c.append.ensures.guest)) sent.told part.1;
     }) c.sent.ensures.failed

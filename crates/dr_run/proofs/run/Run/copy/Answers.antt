@@ -14,7 +14,7 @@ returns-clause-cut g c =
     let sent = subst (IsSent start) (sym c.self.view_is) was in
     let part = c.page-2.ensures.puts.failed failed in
     record {
-      length = length (stream_of c.self.inside.core.guest c.self.inside.core.past) + part.0;
+      length = length (stream_of c.self.inside.log.guest c.self.inside.log.past) + part.0;
       told = told_cut _ _ _ _ (Copied c.args.r c.args.page) _ start _ _ part.0 c.in_ok-append.ensures.taken c.append.ensures.guest
-          (ap (page_record c.args.page) (c.page.ensures ∙ ap (λ g. page_bytes g c.args.page c.append.new.self.past) c.append.ensures.guest ∙ ap (page_bytes c.self.inside.core.guest c.args.page) c.in_ok-append.ensures.taken)) sent.told part.1;
+          (ap (page_record c.args.page) (c.page.ensures ∙ ap (λ g. page_bytes g c.args.page c.append.new.self.past) c.append.ensures.guest ∙ ap (page_bytes c.self.inside.log.guest c.args.page) c.in_ok-append.ensures.taken)) sent.told part.1;
     }) c.sent.ensures.failed

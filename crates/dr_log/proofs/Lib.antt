@@ -1,0 +1,6 @@
+pub mod Within
+pub mod Sets
+pub mod Numbers
+pub mod Copying
+pub mod Rowwise
+pub mod Sized

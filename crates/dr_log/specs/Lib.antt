@@ -1,0 +1,4 @@
+pub mod State
+pub mod Sizes
+pub mod Tests
+pub mod Answered

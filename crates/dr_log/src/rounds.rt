@@ -1,0 +1,91 @@
+ghost use Rattle.std.specs.Prelude.{◌≡◌, ◌<◌, ◌==◌, ◌&&◌, nat_le, List, slice_get, length};
+ghost use Rattle.dr_history.specs.declared.event.Event.{Event};
+ghost use Rattle.dr_history.specs.Lookback.{since, is_number};
+ghost use Rattle.dr_history.specs.Kinds.{is_synced};
+ghost use Rattle.dr_history.specs.Rounds.{last_synced, few_answered, round_copied, is_next_copy};
+ghost use Rattle.dr_history.specs.Rules.{asks_in_turn, copies_next, stops_when_few, switches_when_copied};
+ghost use Rattle.dr_law.specs.Copies.{copies, pages_of};
+ghost use Rattle.dr_state.specs.Rounds.{rounds_of};
+ghost use Rattle.dr_state.specs.Whole.{IsReplay};
+ghost use Rattle.dr_log.specs.Answered.{answered_count};
+
+use dr_history::Event;
+use dr_state::{Answer, Replay, Rounds};
+use dr_types::Guest;
+
+/// So many copies are all of an open round.
+fn is_copied(answer: &Answer, copies: u64) -> bool
+    ensures { result ≡ (answer.now.opens && nat_le (length answer.now.pages) copies) }
+{
+    answer.opens && answer.pages.len() as u64 <= copies
+}
+
+/// The last answer opened a round, each page of which is copied since.
+pub fn round_copied(guest: &Guest, replay: &Replay) -> bool
+    ensures { (past : List Event) → IsReplay guest.now past replay.now
+        → result ≡ round_copied guest.now (last_synced past) (since is_synced past) }
+{
+    match &replay.rounds.answer {
+        Some(answer) => is_copied(answer, replay.rounds.copies),
+        None => false,
+    }
+}
+
+fn at(numbers: &[u32], at: usize) -> Option<u32>
+    ensures { result ≡ slice_get numbers.now at }
+{
+    numbers.get(at).copied()
+}
+
+/// The page stands at a place of an open round of this number.
+fn is_copied_next(answer: &Answer, copies: u64, r: u32, page: u32) -> bool
+    ensures { let next = slice_get answer.now.pages copies in
+        result ≡ (answer.now.round == r && answer.now.opens && is_number page next) }
+{
+    let next = at(answer.pages.as_slice(), copies as usize);
+    answer.round == r && answer.opens && next == Some(page)
+}
+
+/// The page is the next that the open round of this number has to copy.
+pub fn is_next_copy(guest: &Guest, replay: &Replay, r: u32, page: u32) -> bool
+    ensures { (past : List Event) → IsReplay guest.now past replay.now
+        → result ≡ is_next_copy guest.now r page (last_synced past) (since is_synced past) }
+{
+    match &replay.rounds.answer {
+        Some(answer) => is_copied_next(answer, replay.rounds.copies, r, page),
+        None => false,
+    }
+}
+
+/// The page of the last answer that is to be copied next.
+pub fn next_copied(guest: &Guest, replay: &Replay) -> Option<u32>
+    ensures { (past : List Event) → IsReplay guest.now past replay.now
+        → result ≡ slice_get (pages_of (last_synced past)) (copies past) }
+{
+    match &replay.rounds.answer {
+        Some(answer) => at(answer.pages.as_slice(), replay.rounds.copies as usize),
+        None => None,
+    }
+}
+
+/// How many pages the last answer has.
+pub fn answered_count(guest: &Guest, replay: &Replay) -> Option<u64>
+    ensures { (past : List Event) → IsReplay guest.now past replay.now
+        → result ≡ answered_count (last_synced past) }
+{
+    match &replay.rounds.answer {
+        Some(answer) => Some(answer.pages.len() as u64),
+        None => None,
+    }
+}
+
+/// The last answer has at most threshold pages.
+pub fn few_answered(guest: &Guest, rounds: &Rounds) -> bool
+    ensures { (past : List Event) → rounds.now ≡ rounds_of guest.now past
+        → result ≡ few_answered guest.now (last_synced past) }
+{
+    match &rounds.answer {
+        Some(answer) => answer.pages.len() <= guest.settings.threshold as usize,
+        None => false,
+    }
+}

@@ -1,6 +1,0 @@
-use Rattle.std.proofs.Common.{sym}
-use Rattle.dr_rules.proofs.Numbers.{none_before}
-use Rattle.dr_rules.proofs.deposits.deposited_between.Goals as goal
-
-pub loop-k-init : goal.loop-k-init
-loop-k-init c = sym (none_before c.args.entries.now c.args.from)

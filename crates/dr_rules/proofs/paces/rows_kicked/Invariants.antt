@@ -1,7 +1,0 @@
-use Rattle.std.proofs.Common.{◌≡◌, take}
-use Rattle.std.specs.List.{list_any}
-use Rattle.dr_rules.specs.Tests.{row_kicked}
-use Rattle.dr_rules.proofs.paces.rows_kicked.Given as goal
-
-abbrev pub invariant-loop-row : goal.invariant-loop-row
-invariant-loop-row l = l.found ≡ list_any row_kicked (take l.row-index l.rows)

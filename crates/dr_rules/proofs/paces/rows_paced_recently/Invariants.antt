@@ -1,7 +1,0 @@
-use Rattle.std.proofs.Common.{◌≡◌, take}
-use Rattle.std.specs.List.{list_all}
-use Rattle.dr_rules.specs.Tests.{row_paced_recently}
-use Rattle.dr_rules.proofs.paces.rows_paced_recently.Given as goal
-
-abbrev pub invariant-loop-row : goal.invariant-loop-row
-invariant-loop-row l = l.all ≡ list_all (row_paced_recently l.pace) (take l.row-index l.rows)
