@@ -6,7 +6,5 @@ mod ending;
 mod input;
 mod journal;
 mod plain;
-#[cfg(test)]
-mod tests;
 
 pub use plain::{PlainEnd, plain_main};

@@ -78,16 +78,14 @@ fn make_room(core: &mut Core, v: u32) -> Result<(), CoreFault> {
 
 /// A vCPU executes its next operation, where it has one.
 fn go_on(core: &mut Core, v: u32) -> Result<(), CoreFault> {
+    let Some(op) = next_op(core, v) else {
+        return Ok(());
+    };
     if is_full(core, v) {
         make_room(core, v)?;
     }
-    match next_op(core, v) {
-        Some(op) => {
-            let i = u32::try_from(ops(core, v)).unwrap_or(u32::MAX);
-            execute(core, v, i, op)
-        }
-        None => Ok(()),
-    }
+    let i = u32::try_from(ops(core, v)).unwrap_or(u32::MAX);
+    execute(core, v, i, op)
 }
 
 /// Each vCPU executes so many operations, one vCPU after the other.
