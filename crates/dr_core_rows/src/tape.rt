@@ -28,7 +28,7 @@ impl Tape {
 
     /// How many events were taken, and the rule that the next one or the end breaks, or 0.
     pub fn verdict(&self) -> (usize, u32) {
-        let taken = self.core.events().len();
+        let taken = self.core.log().events().len();
         if let Some(rule) = self.refused {
             return (taken, rule);
         }

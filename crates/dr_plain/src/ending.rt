@@ -8,8 +8,8 @@ ghost use Rattle.dr_run.specs.Going.{IsFault};
 ghost use Rattle.dr_plain.specs.Puts.{PutsPart, rest_of};
 
 use crate::journal::journal;
-use dr_log::Log;
 use dr_io::{Outlet, Port, PutTurn};
+use dr_log::Log;
 use dr_report::report_text;
 use dr_run::RunFault;
 use std::alloc::Global;

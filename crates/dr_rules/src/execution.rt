@@ -132,7 +132,13 @@ fn opens_before_fault(count: u64, v: u32, events: &[Event]) -> u64
         → result ≡ opens v (before_fault (reverse events.now)) }
 {
     match events.last() {
-        Some(Event::Opened { v: w, .. }) => { if *w == v { count.saturating_sub(1) } else { count } }
+        Some(Event::Opened { v: w, .. }) => {
+            if *w == v {
+                count.saturating_sub(1)
+            } else {
+                count
+            }
+        }
         _ => count,
     }
 }

@@ -48,9 +48,7 @@ pub fn stops_when_few(log: &Log, e: &Event) -> bool
     ensures { result ≡ stops_when_few log.now.guest log.now.past e.now }
 {
     match e {
-        Event::Stopped => {
-            !log.stopped() && log.unanswered().is_none() && log.few_answered()
-        }
+        Event::Stopped => { !log.stopped() && log.unanswered().is_none() && log.few_answered() }
         _ => true,
     }
 }

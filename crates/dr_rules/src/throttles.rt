@@ -14,9 +14,7 @@ pub fn throttles_due(log: &Log, e: &Event) -> bool
     match log.throttle_due() {
         Some(v) => match e {
             Event::Throttled { v: w, us } => {
-                u64::from(*w) == v
-                    && log.guest().settings.quota >= 1
-                    && *us == log.throttle(*w).us
+                u64::from(*w) == v && log.guest().settings.quota >= 1 && *us == log.throttle(*w).us
             }
             _ => false,
         },

@@ -11,9 +11,9 @@ ghost use Rattle.dr_run.specs.Execution.{HasEnded, HaveRun, IsRunning, MayExecut
 ghost use Rattle.dr_run.specs.Going.{GetsCut, Goes, IsFault, StaysSent};
 
 use crate::run::{Run, RunFault};
-use dr_log::Log;
 use dr_history::Event;
 use dr_io::Outlet;
+use dr_log::Log;
 use dr_slots::page_of_frame;
 use dr_types::{Guest, Op, Why};
 

@@ -8,8 +8,8 @@ ghost use Rattle.dr_run.specs.Execution.{AllLeft};
 ghost use Rattle.dr_run.specs.Going.{IsFault, ends_switched};
 
 use crate::run::{Run, RunFault};
-use dr_log::Log;
 use dr_io::{Clock, Outlet, Port};
+use dr_log::Log;
 use dr_stream::Sender;
 use dr_types::Guest;
 use std::alloc::Global;

@@ -12,9 +12,9 @@ ghost use Rattle.dr_run.specs.Going.{GetsCut, Goes, IsFault, MayAddTime, StaysSe
 ghost use Rattle.dr_run.specs.Rounds.{AllCopied, HasAnswered, IsAnswer, IsAsked, IsBetween, IsCopying, IsFew, IsGoing, IsNext, IsStopped, IsTurn, SameRound};
 
 use crate::run::{Run, RunFault};
-use dr_log::Log;
 use dr_history::Event;
 use dr_io::{Clock, Outlet, PutTurn};
+use dr_log::Log;
 
 /// What a put answered, as the answer of a run.
 fn sent(turn: PutTurn) -> Result<(), RunFault>

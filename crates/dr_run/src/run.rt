@@ -4,9 +4,9 @@ ghost use Rattle.dr_history.specs.Times.{times};
 ghost use Rattle.dr_may.specs.May.{MayFollow};
 ghost use Rattle.dr_run.specs.Going.{Going, Goes, GetsCut, IsFault, IsSilent, StaysSent, is_unlogged};
 
-use dr_log::Log;
 use dr_history::Event;
 use dr_io::Outlet;
+use dr_log::Log;
 use dr_stream::Sender;
 use dr_types::Memory;
 use std::alloc::Global;

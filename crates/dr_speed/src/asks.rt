@@ -24,21 +24,21 @@ use std::alloc::Global;
 pub fn vcpus(core: &Core) -> u32
     ensures { result ≡ vcpu_count core.now.guest }
 {
-    core.vcpus()
+    core.log().vcpus()
 }
 
 /// How many rounds the guest has before the stop.
 pub fn rounds(core: &Core) -> u32
     ensures { result ≡ core.now.guest.settings.rounds }
 {
-    core.guest().settings.rounds
+    core.log().guest().settings.rounds
 }
 
 /// Logging has started.
 pub fn is_started(core: &Core) -> bool
     ensures { result ≡ started core.now.past }
 {
-    core.started()
+    core.log().started()
 }
 
 /// The operation that a vCPU executes next.
@@ -46,8 +46,8 @@ pub fn next_op(core: &Core, v: u32) -> Option<Op>
     ensures { v < vcpu_count core.now.guest
         → result ≡ operation core.now.guest v (ops v core.now.past) }
 {
-    if v < core.vcpus() {
-        core.next_op(v)
+    if v < core.log().vcpus() {
+        core.log().next_op(v)
     } else {
         None
     }
@@ -57,42 +57,58 @@ pub fn next_op(core: &Core, v: u32) -> Option<Op>
 pub fn ops(core: &Core, v: u32) -> u64
     ensures { v < vcpu_count core.now.guest → result ≡ ops v core.now.past }
 {
-    if v < core.vcpus() { core.ops(v) } else { 0 }
+    if v < core.log().vcpus() {
+        core.log().ops(v)
+    } else {
+        0
+    }
 }
 
 /// A vCPU was in the guest at the last Asked, and hasn't left it since.
 pub fn kicked(core: &Core, v: u32) -> bool
     ensures { v < vcpu_count core.now.guest → result ≡ kicked v core.now.past }
 {
-    v < core.vcpus() && core.kicked(v)
+    v < core.log().vcpus() && core.log().kicked(v)
 }
 
 /// How many entries a vCPU has opened.
 pub fn opens(core: &Core, v: u32) -> u64
     ensures { v < vcpu_count core.now.guest → result ≡ opens v core.now.past }
 {
-    if v < core.vcpus() { core.opens(v) } else { 0 }
+    if v < core.log().vcpus() {
+        core.log().opens(v)
+    } else {
+        0
+    }
 }
 
 /// How many entries a vCPU has pushed.
 pub fn pushes(core: &Core, v: u32) -> u64
     ensures { v < vcpu_count core.now.guest → result ≡ pushes v core.now.past }
 {
-    if v < core.vcpus() { core.pushes(v) } else { 0 }
+    if v < core.log().vcpus() {
+        core.log().pushes(v)
+    } else {
+        0
+    }
 }
 
 /// How many entries of a vCPU are reset.
 pub fn resets(core: &Core, v: u32) -> u64
     ensures { v < vcpu_count core.now.guest → result ≡ resets v core.now.past }
 {
-    if v < core.vcpus() { core.resets(v) } else { 0 }
+    if v < core.log().vcpus() {
+        core.log().resets(v)
+    } else {
+        0
+    }
 }
 
 /// A vCPU's ring is so full that it has to leave the guest.
 pub fn is_full(core: &Core, v: u32) -> bool
     ensures { v < vcpu_count core.now.guest → result ≡ is_full core.now.guest v core.now.past }
 {
-    let settings = &core.guest().settings;
+    let settings = &core.log().guest().settings;
     let limit = settings
         .ring
         .saturating_sub(settings.reserve)
@@ -105,7 +121,7 @@ pub fn is_buffered(core: &Core, v: u32) -> bool
     ensures { v < vcpu_count core.now.guest → let past = core.now.past in
         result ≡ nat_le core.now.guest.settings.buffer (opens v past - pushes v past) }
 {
-    let buffer = u64::from(core.guest().settings.buffer);
+    let buffer = u64::from(core.log().guest().settings.buffer);
     opens(core, v).saturating_sub(pushes(core, v)) >= buffer
 }
 
@@ -114,8 +130,8 @@ pub fn throttle_us(core: &Core, v: u32) -> u64
     ensures { v < vcpu_count core.now.guest → 1 ≤ core.now.guest.settings.quota
         → result ≡ (throttle core.now.guest v core.now.past).us }
 {
-    if v < core.vcpus() && core.guest().settings.quota > 0 {
-        core.throttle(v).us
+    if v < core.log().vcpus() && core.log().guest().settings.quota > 0 {
+        core.log().throttle(v).us
     } else {
         0
     }
@@ -125,8 +141,8 @@ pub fn throttle_us(core: &Core, v: u32) -> u64
 pub fn page_at(core: &Core, addr: u64) -> Option<u32>
     ensures { result ≡ page_of_address core.now.guest addr }
 {
-    let _pages = core.pages();
-    page_of_address(core.guest(), addr)
+    let _pages = core.log().pages();
+    page_of_address(core.log().guest(), addr)
 }
 
 /// The value of the 8 bytes at an address.
@@ -136,7 +152,7 @@ pub fn loaded(core: &Core, addr: u64) -> u64
         result ≡ loaded (page_bytes core.now.guest page core.now.past) (addr % 4096)) }
 {
     if page_at(core, addr).is_some() && addr % 4096 <= 4088 {
-        core.loaded(addr)
+        core.log().loaded(addr)
     } else {
         0
     }
@@ -147,14 +163,14 @@ pub fn cached(core: &Core, v: u32, page: u32) -> bool
     ensures { v < vcpu_count core.now.guest → page < page_count core.now.guest
         → result ≡ cached v page core.now.past }
 {
-    v < core.vcpus() && page < core.pages() && core.cached(v, page)
+    v < core.log().vcpus() && page < core.log().pages() && core.log().cached(v, page)
 }
 
 /// A page may be written.
 pub fn writable(core: &Core, page: u32) -> bool
     ensures { page < page_count core.now.guest → result ≡ writable page core.now.past }
 {
-    page < core.pages() && core.writable(page)
+    page < core.log().pages() && core.log().writable(page)
 }
 
 /// The pages that the destination lacks, rising. An `Err` comes for want of memory alone.
@@ -163,7 +179,7 @@ pub fn dirty_pages(core: &Core, alloc: Global) -> Result<PageList, Memory>
     ensures small { IfOk result (λ pages. All (λ page. page < 2 ^ 32) pages) }
     ensures few { IfOk result (λ pages. length pages ≤ page_count core.now.guest) }
 {
-    core.dirty_pages(alloc)
+    core.log().dirty_pages(alloc)
 }
 
 /// The page of the last answer that is to be copied next.
@@ -171,25 +187,25 @@ pub fn next_copy(core: &Core) -> Option<u32>
     ensures { let past = core.now.past in
         result ≡ slice_get (pages_of (last_synced past)) (copies past) }
 {
-    core.next_copy()
+    core.log().next_copy()
 }
 
 /// How many events were taken.
 pub fn events(core: &Core) -> u64
     ensures { result ≡ length core.now.past }
 {
-    core.history().len() as u64
+    core.log().history().len() as u64
 }
 
 /// The last answer has so few pages that the guest may be stopped.
 pub fn has_few(core: &Core) -> bool {
-    match core.answered_count() {
-        Some(count) => count <= u64::from(core.guest().settings.threshold),
+    match core.log().answered_count() {
+        Some(count) => count <= u64::from(core.log().guest().settings.threshold),
         None => false,
     }
 }
 
 /// The number of the round that was asked last.
 pub fn last_round(core: &Core) -> u32 {
-    u32::try_from(core.asks()).unwrap_or(u32::MAX)
+    u32::try_from(core.log().asks()).unwrap_or(u32::MAX)
 }

@@ -21,7 +21,7 @@ fn run_guest(alloc: Global, guest: &Guest, wanted: u32) -> Result<Core, RunFault
     let mut core = Core::new(alloc, guest)?;
     match migrate(alloc, &mut core, wanted) {
         Ok(()) => {
-            let _history = core.history();
+            let _history = core.log().history();
             Ok(core)
         }
         Err(fault) => Err(refusal(&core, fault)),
@@ -34,8 +34,8 @@ pub fn run(alloc: Global, request: Request) -> Result<Counts, RunFault> {
     let mut counts = Counts::none();
     for _ in 0..request.guests {
         let core = run_guest(alloc, &guest, request.share())?;
-        let _few = core.history().len();
-        counts.add(core.events());
+        let _few = core.log().history().len();
+        counts.add(core.log().events());
     }
     Ok(counts)
 }
