@@ -30,38 +30,32 @@ impl Model for KernelSeat {
 
     ghost Value = { KernelView };
 
-    ghost view = {
-        λ s.
+    ghost view = { λ s.
         record {
-            ring = s.seat.table_id;
-            pushed = s.seat.me.0.entries;
-            reset = s.seat.me.0.reset;
-            known = s.seat.me.0.known;
-            loaded = s.seat.me.0.loaded;
-        }
-    };
+          ring = s.seat.table_id;
+          pushed = s.seat.me.0.entries;
+          reset = s.seat.me.0.reset;
+          known = s.seat.me.0.known;
+          loaded = s.seat.me.0.loaded;
+        } };
 
-    ghost invariant = {
-        λ s.
+    ghost invariant = { λ s.
         (s.seat.me.0.role ≡ Kernel) × (s.pushed ≡ length s.seat.me.0.entries)
-            × (s.reset ≡ s.seat.me.0.reset) × (s.reset ≤ s.pushed)
-    };
+        × (s.reset ≡ s.seat.me.0.reset) × (s.reset ≤ s.pushed) };
 }
 
 impl KernelSeat {
     pub(crate) fn first(seat: RawSeat) -> KernelSeat
         requires role { seat.me.0.role ≡ Kernel }
         requires nothing { (seat.me.0.entries ≡ []) × (seat.me.0.reset ≡ 0) }
-        ensures {
-            result
-                ≡ record {
-                    ring = seat.table_id;
-                    pushed = [];
-                    reset = 0;
-                    known = seat.me.0.known;
-                    loaded = seat.me.0.loaded;
-                }
-        }
+        ensures { result
+            ≡ record {
+              ring = seat.table_id;
+              pushed = [];
+              reset = 0;
+              known = seat.me.0.known;
+              loaded = seat.me.0.loaded;
+            } }
     {
         KernelSeat {
             seat,

@@ -26,21 +26,19 @@ impl Name for Brand {
     ghost use Rattle.std.specs.Prelude.{[]};
     ghost use Rattle.dr_types.specs.Ports.{silent};
 
-    ghost guest = {
-        record {
-            settings = record {
-                ring = 0;
-                reserve = 0;
-                buffer = 0;
-                pace = 0;
-                threshold = 0;
-                rounds = 0;
-                quota = 0;
-            };
-            slots = [];
-            scripts = [];
-        }
-    };
+    ghost guest = { record {
+      settings = record {
+        ring = 0;
+        reserve = 0;
+        buffer = 0;
+        pace = 0;
+        threshold = 0;
+        rounds = 0;
+        quota = 0;
+      };
+      slots = [];
+      scripts = [];
+    } };
 
     ghost rings = { [] };
 

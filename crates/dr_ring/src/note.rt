@@ -18,28 +18,22 @@ impl Model for Note {
 
     ghost Value = { NoteView };
 
-    ghost view = {
-        λ n.
+    ghost view = { λ n.
         record {
-            ring = n.seat.table_id;
-            by_kernel = is_kernel_note n.seat.me.0.role;
-            entries = n.seat.me.0.entries;
-        }
-    };
+          ring = n.seat.table_id;
+          by_kernel = is_kernel_note n.seat.me.0.role;
+          entries = n.seat.me.0.entries;
+        } };
 
-    ghost invariant = {
-        λ n. (n.seat.me.0.role ≡ note_role (is_kernel_note n.seat.me.0.role)) × (n.seat.me.1 ≡ [])
-    };
+    ghost invariant = { λ n. (n.seat.me.0.role ≡ note_role (is_kernel_note n.seat.me.0.role)) × (n.seat.me.1 ≡ []) };
 }
 
 impl Note {
     pub(crate) fn of_kernel(seat: RawSeat) -> Note
         requires role { seat.me.0.role ≡ KernelNote }
         requires no_slots { seat.me.1 ≡ [] }
-        ensures {
-            result
-                ≡ record { ring = seat.table_id; by_kernel = true; entries = seat.me.0.entries }
-        }
+        ensures { result
+            ≡ record { ring = seat.table_id; by_kernel = true; entries = seat.me.0.entries } }
     {
         Note { seat }
     }
@@ -47,10 +41,8 @@ impl Note {
     pub(crate) fn of_user(seat: RawSeat) -> Note
         requires role { seat.me.0.role ≡ UserNote }
         requires no_slots { seat.me.1 ≡ [] }
-        ensures {
-            result
-                ≡ record { ring = seat.table_id; by_kernel = false; entries = seat.me.0.entries }
-        }
+        ensures { result
+            ≡ record { ring = seat.table_id; by_kernel = false; entries = seat.me.0.entries } }
     {
         Note { seat }
     }

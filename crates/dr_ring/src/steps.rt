@@ -63,14 +63,10 @@ impl Words {
         requires own { seat.old.table_id ≡ self.now.table.shared.table_id }
         requires role { seat.old.me.0.role ≡ Kernel }
         requires next { reset ≡ seat.old.me.0.reset }
-        ensures harvested {
-            HasReset result
-            → FindsHarvested (entry_place self.now.size reset) result seat.old seat.new
-        }
-        ensures other {
-            ¬ HasReset result
-            → FindsNone (entry_place self.now.size reset) result seat.old seat.new
-        }
+        ensures harvested { HasReset result
+            → FindsHarvested (entry_place self.now.size reset) result seat.old seat.new }
+        ensures other { ¬ HasReset result
+            → FindsNone (entry_place self.now.size reset) result seat.old seat.new }
     {
         let at = self.entry_index(reset);
         self.table.shared.load::<LoadAtReset>(seat, at)
@@ -82,10 +78,8 @@ impl Words {
         requires role { seat.old.me.0.role ≡ Resetting }
         requires next { reset ≡ seat.old.me.0.reset }
         ensures seat { IsMoved seat.old seat.new seat.old.me.0 }
-        ensures value {
-            (e : Entry)
-            → slice_get seat.old.me.0.entries reset ≡ Some e → result ≡ e.offset
-        }
+        ensures value { (e : Entry)
+            → slice_get seat.old.me.0.entries reset ≡ Some e → result ≡ e.offset }
     {
         let at = self.entry_index(reset) + 1;
         self.table.shared.load::<LoadResetOffset>(seat, at)
@@ -107,14 +101,10 @@ impl Words {
         requires own { seat.old.table_id ≡ self.now.table.shared.table_id }
         requires role { seat.old.me.0.role ≡ User }
         requires next { n ≡ length seat.old.me.0.entries }
-        ensures dirty {
-            IsDirty result
-            → SeesDirty (entry_place self.now.size n) result seat.old seat.new
-        }
-        ensures other {
-            ¬ IsDirty result
-            → SeesNone (entry_place self.now.size n) result seat.old seat.new
-        }
+        ensures dirty { IsDirty result
+            → SeesDirty (entry_place self.now.size n) result seat.old seat.new }
+        ensures other { ¬ IsDirty result
+            → SeesNone (entry_place self.now.size n) result seat.old seat.new }
     {
         let at = self.entry_index(n);
         self.table.shared.load::<LoadAtHarvest>(seat, at)
@@ -125,10 +115,8 @@ impl Words {
         requires own { seat.old.table_id ≡ self.now.table.shared.table_id }
         requires role { seat.old.me.0.role ≡ Dirty slot }
         requires next { n ≡ length seat.old.me.0.entries }
-        ensures {
-            IsMoved seat.old seat.new
-                (copied seat.old.me.0 (record { slot = slot; offset = result }))
-        }
+        ensures { IsMoved seat.old seat.new
+            (copied seat.old.me.0 (record { slot = slot; offset = result })) }
     {
         let at = self.entry_index(n) + 1;
         self.table.shared.load::<LoadHarvestOffset>(seat, at)
@@ -190,10 +178,8 @@ impl Words {
         requires role { seat.old.me.0.role ≡ User }
         requires of_kernel { note.me.0.role ≡ KernelNote }
         ensures moved { IsMoved seat.old seat.new (learnt seat.old.me.0 note.me.0) }
-        ensures prefix {
-            IsPrefix seat.old.me.0.entries note.me.0.entries
-            ⊎ IsPrefix note.me.0.entries seat.old.me.0.entries
-        }
+        ensures prefix { IsPrefix seat.old.me.0.entries note.me.0.entries
+            ⊎ IsPrefix note.me.0.entries seat.old.me.0.entries }
     {
         self.table.shared.join_seat::<Learn>(seat, note);
         self.table.shared.load::<Compare>(seat, 0);

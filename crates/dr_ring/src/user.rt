@@ -28,34 +28,28 @@ impl Model for UserSeat {
 
     ghost Value = { UserView };
 
-    ghost view = {
-        λ s.
+    ghost view = { λ s.
         record {
-            ring = s.seat.table_id;
-            harvested = s.seat.me.0.entries;
-            known = s.seat.me.0.known;
-            loaded = s.seat.me.0.loaded;
-        }
-    };
+          ring = s.seat.table_id;
+          harvested = s.seat.me.0.entries;
+          known = s.seat.me.0.known;
+          loaded = s.seat.me.0.loaded;
+        } };
 
-    ghost invariant = {
-        λ s. (s.seat.me.0.role ≡ User) × (s.harvested ≡ length s.seat.me.0.entries)
-    };
+    ghost invariant = { λ s. (s.seat.me.0.role ≡ User) × (s.harvested ≡ length s.seat.me.0.entries) };
 }
 
 impl UserSeat {
     pub(crate) fn first(seat: RawSeat) -> UserSeat
         requires role { seat.me.0.role ≡ User }
         requires nothing { seat.me.0.entries ≡ [] }
-        ensures {
-            result
-                ≡ record {
-                    ring = seat.table_id;
-                    harvested = [];
-                    known = seat.me.0.known;
-                    loaded = seat.me.0.loaded;
-                }
-        }
+        ensures { result
+            ≡ record {
+              ring = seat.table_id;
+              harvested = [];
+              known = seat.me.0.known;
+              loaded = seat.me.0.loaded;
+            } }
     {
         UserSeat { seat, harvested: 0 }
     }
@@ -74,9 +68,12 @@ impl UserSeat {
             return None;
         }
         let slot = words_entry(first, 0).slot;
-        let second = ring.words.load_harvest_offset(&mut self.seat, self.harvested, slot);
+        let second = ring
+            .words
+            .load_harvest_offset(&mut self.seat, self.harvested, slot);
         let e = words_entry(first, second);
-        ring.words.store_harvested(&mut self.seat, self.harvested, e);
+        ring.words
+            .store_harvested(&mut self.seat, self.harvested, e);
         self.harvested += 1;
         Some(e)
     }
@@ -97,9 +94,7 @@ impl UserSeat {
         requires of_ring { note.ring ≡ ring.now.id }
         requires of_kernel { note.by_kernel ≡ true }
         ensures seat { self.new ≡ user_learnt self.old note.entries }
-        ensures prefix {
-            IsPrefix self.new.harvested note.entries ⊎ IsPrefix note.entries self.new.harvested
-        }
+        ensures prefix { IsPrefix self.new.harvested note.entries ⊎ IsPrefix note.entries self.new.harvested }
     {
         ring.words.user_learn(&mut self.seat, note.into_seat());
     }
