@@ -1,0 +1,6 @@
+use Rattle.std.proofs.Common.{arith}
+use Rattle.dr_ring.proofs.Allowed.{finds_at}
+use Rattle.dr_ring.proofs.words.Words.load_at_reset.Goals as goal
+
+pub load-requires : goal.load-requires
+load-requires c = (c.requires.own, omega (arith, c.entry_index-at.ensures.inside), finds_at _ _ _ _ _ c.args.self.now.keyed _ _ c.requires.next c.entry_index-at.ensures.place c.requires.role)

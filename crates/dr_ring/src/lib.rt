@@ -1,0 +1,20 @@
+//! Dirty rings: one kernel seat that pushes and resets entries, and one user seat that harvests them.
+#![tactic(auto)]
+
+mod kernel;
+mod name;
+mod note;
+mod plays;
+mod ring;
+mod steps;
+#[cfg(test)]
+mod tests;
+mod user;
+mod view;
+mod words;
+
+pub use kernel::KernelSeat;
+pub use name::Name;
+pub use note::Note;
+pub use ring::Ring;
+pub use user::UserSeat;
