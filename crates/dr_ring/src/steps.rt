@@ -19,11 +19,21 @@ use crate::plays::{
 use crate::words::{RawSeat, Words};
 use dr_types::{Entry, entry_words};
 
-/// The flags of a dirty entry word.
-const DIRTY: u32 = 1;
+/// The entry word of an entry that is pushed and not harvested.
+fn dirty_word(e: Entry) -> u64
+    ensures { result ≡ first_word e 1 }
+{
+    let (first, _) = entry_words(e, 1);
+    first
+}
 
-/// The flags of a harvested entry word: DIRTY and RESET.
-const HARVESTED: u32 = 3;
+/// The entry word of an entry that is harvested and not reset: DIRTY and RESET.
+fn harvested_word(e: Entry) -> u64
+    ensures { result ≡ first_word e 3 }
+{
+    let (first, _) = entry_words(e, 3);
+    first
+}
 
 impl Words {
     fn entry_index(&self, k: u64) -> usize
@@ -54,8 +64,8 @@ impl Words {
         ensures { IsMoved seat.old seat.new (pushed_one seat.old.me.0 e) }
     {
         let at = self.entry_index(n);
-        let (first, _) = entry_words(e, DIRTY);
-        self.table.shared.store::<StoreDirty>(seat, at, first);
+        let word = dirty_word(e);
+        self.table.shared.store::<StoreDirty>(seat, at, word);
     }
 
     /// The kernel seat loads the entry word at its reset number.
@@ -130,8 +140,8 @@ impl Words {
         ensures { IsMoved seat.old seat.new (harvested_one seat.old.me.0 e) }
     {
         let at = self.entry_index(n);
-        let (first, _) = entry_words(e, HARVESTED);
-        self.table.shared.store::<StoreHarvested>(seat, at, first);
+        let word = harvested_word(e);
+        self.table.shared.store::<StoreHarvested>(seat, at, word);
     }
 
     /// A copy of what the kernel seat knows.
