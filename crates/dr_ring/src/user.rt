@@ -54,8 +54,8 @@ impl UserSeat {
         UserSeat { seat, harvested: 0 }
     }
 
-    /// Harvests the next entry, if it was pushed. None where the entry word that this call loaded there
-    /// was not dirty; never while the seat knows of more pushes than harvests.
+    /// Harvests the next entry, if it was pushed. None where the entry word that this call loaded
+    /// there was not dirty; never while the seat knows of more pushes than harvests.
     pub fn harvest_next(&mut self, ring: &Ring) -> Option<Entry>
         requires { self.old.ring ≡ ring.now.id }
         ensures ring { self.new.ring ≡ self.old.ring }
@@ -87,8 +87,8 @@ impl UserSeat {
         Note::of_user(ring.words.user_note(&mut self.seat))
     }
 
-    /// Takes in what the kernel seat knew: of its pushes and this seat's harvests the one list begins the
-    /// other. The seat then knows of at least so many pushes.
+    /// Takes in what the kernel seat knew: of its pushes and this seat's harvests the one list
+    /// begins the other. The seat then knows of at least so many pushes.
     pub fn learn(&mut self, ring: &Ring, note: Note)
         requires ring { self.old.ring ≡ ring.now.id }
         requires of_ring { note.ring ≡ ring.now.id }

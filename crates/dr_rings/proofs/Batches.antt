@@ -17,8 +17,8 @@ pub one_more_stands : (first : ℕ) (entries whole : List Entry) (e : Entry) →
 one_more_stands first entries whole e end stand k d at = ⊎_elim
     (λ (old : slice_get entries k ≡ Some d). prefix_get whole (whole ++ e ∷ []) (first + k) d (prefix_push whole e) (stand k d old))
     (λ (new : (k ≡ length entries) × (e ≡ d)).
-        let place : length whole ≡ first + k = sym end ∙ ap (λ (n : ℕ). first + n) (sym new.0) in
-        subst (λ (z : ℕ × Entry). slice_get (whole ++ e ∷ []) z.0 ≡ Some z.1) (λ i. (place i, new.1 i)) (slice_get-last whole e))
+    let place : length whole ≡ first + k = sym end ∙ ap (λ (n : ℕ). first + n) (sym new.0) in
+    subst (λ (z : ℕ × Entry). slice_get (whole ++ e ∷ []) z.0 ≡ Some z.1) (λ i. (place i, new.1 i)) (slice_get-last whole e))
     (slice_get-push entries e d k at)
 
 -- what stands in a note stands in the list that the note begins

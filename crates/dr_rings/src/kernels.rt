@@ -45,9 +45,7 @@ impl<N: Name> KernelSeats<N> {
         requires vcpu { v < length N.rings }
         requires room { IfAt self.old v (λ s. length s.pushed < s.reset + rings.now.size) }
         requires count { IfAt self.old v (λ s. length s.pushed < 2 ^ 64 - 1) }
-        ensures {
-            MovesAt self.old self.new v (λ s t. t ≡ record s { pushed = s.pushed ++ e ∷ [] })
-        }
+        ensures { MovesAt self.old self.new v (λ s t. t ≡ record s { pushed = s.pushed ++ e ∷ [] }) }
     {
         self.seats[v as usize].push(&rings.rings[v as usize], e);
     }
@@ -92,10 +90,8 @@ impl<N: Name> KernelSeats<N> {
         requires vcpu { v < length N.rings }
         requires of_ring { slice_get N.rings v ≡ Some note.ring }
         requires of_user { note.by_kernel ≡ false }
-        ensures {
-            MovesAt self.old self.new v
-                (λ s t. (t ≡ kernel_learnt s note.entries) × IsPrefix note.entries s.pushed)
-        }
+        ensures { MovesAt self.old self.new v
+            (λ s t. (t ≡ kernel_learnt s note.entries) × IsPrefix note.entries s.pushed) }
     {
         self.seats[v as usize].learn(&rings.rings[v as usize], note);
     }

@@ -28,11 +28,9 @@ impl Model for RingSet {
 
     ghost view = { λ s. record { rings = map id_of s.rings.items; size = s.size } };
 
-    ghost invariant = {
-        λ s.
+    ghost invariant = { λ s.
         IsNewSet s.rings.items s.kernels.items s.users.items s.size
-            × (length s.rings.items < 2 ^ 32)
-    };
+        × (length s.rings.items < 2 ^ 32) };
 }
 
 /// The parts of a set, under one name.

@@ -2,7 +2,7 @@ ghost use Rattle.std.specs.Prelude.{◌≡◌, ◌≤◌, ◌<◌, [], length, I
 ghost use Rattle.dr_rings.specs.Seated.{IfAt, HasAt};
 ghost use Rattle.dr_rings.specs.Batches.{StandFrom};
 
-use crate::{Batch, EntryList, KernelSeats, RingParts, RingSet, Rings, UserSeats};
+use crate::{Batch, EntryList, KernelSeatList, KernelSeats, RingParts, RingSet, Rings, UserSeats};
 use dr_ring::Name;
 use dr_types::{Entry, Listed, Memory};
 use std::alloc::Global;
@@ -50,7 +50,7 @@ fn take_in<N: Name>(rings: &Rings<N>, kernels: &mut KernelSeats<N>, batch: Batch
     entries
 }
 
-/// One entry of vCPU 1 goes through its ring, in a batch.
+/// One entry of vCPU 1 goes through its ring, in a batch, and what the calls of the other vCPU say.
 fn through<N: Name>(alloc: Global, set: RingSet, e: Entry) -> Result<bool, Memory>
     requires name { N.rings ≡ set.rings }
     requires vcpus { length set.rings ≡ 2 }
@@ -61,15 +61,21 @@ fn through<N: Name>(alloc: Global, set: RingSet, e: Entry) -> Result<bool, Memor
         mut kernels,
         mut users,
     } = set.parts::<N>();
+    let counts = (rings.vcpus(), users.vcpus(), rings.size());
     kernels.push(&rings, 1, e);
     let used = (kernels.used(0), kernels.used(1));
+    let full = (kernels.soft_full(0, 1), kernels.soft_full(1, 1));
+    let note = kernels.note(&rings, 1);
+    users.learn(&rings, 1, note);
     let Some(batch) = batch_of_one(alloc, &rings, &mut users, 1)? else {
         return Ok(false);
     };
     let some = !batch.is_empty();
     let entries = take_in(&rings, &mut kernels, batch);
     let reset = kernels.reset_next(&rings, 1);
-    Ok(used == (0, 1) && some && entries.len() == 1 && reset == Some(e))
+    let seats: KernelSeatList = kernels.into_seats();
+    let said = counts == (2, 2, 8) && used == (0, 1) && full == (false, true) && some;
+    Ok(said && entries.len() == 1 && reset == Some(e) && seats.len() == 2)
 }
 
 #[test]

@@ -24,9 +24,7 @@ impl<N: Name> Model for UserSeats<N> {
 
     ghost view = { λ s. s.seats.items };
 
-    ghost invariant = {
-        λ s. (map ring_of_user s.seats.items ≡ N.rings) × (length s.seats.items < 2 ^ 32)
-    };
+    ghost invariant = { λ s. (map ring_of_user s.seats.items ≡ N.rings) × (length s.seats.items < 2 ^ 32) };
 }
 
 impl<N: Name> UserSeats<N> {
@@ -73,11 +71,9 @@ impl<N: Name> UserSeats<N> {
         requires vcpu { v < length N.rings }
         requires of_ring { slice_get N.rings v ≡ Some note.ring }
         requires of_kernel { note.by_kernel ≡ true }
-        ensures {
-            MovesAt self.old self.new v
-                (λ s t. (t ≡ user_learnt s note.entries)
-                × (IsPrefix s.harvested note.entries ⊎ IsPrefix note.entries s.harvested))
-        }
+        ensures { MovesAt self.old self.new v
+            (λ s t. (t ≡ user_learnt s note.entries)
+            × (IsPrefix s.harvested note.entries ⊎ IsPrefix note.entries s.harvested)) }
     {
         self.seats[v as usize].learn(&rings.rings[v as usize], note);
     }

@@ -1,4 +1,4 @@
-use Rattle.std.proofs.Common.{◌≡◌, ◌∙◌, length, set, ap, arith}
+use Rattle.std.proofs.Common.{◌≡◌, ◌∙◌, set, ap}
 use Rattle.dr_ring.specs.Seats.{KernelView}
 use Rattle.dr_rings.specs.Seated.{ring_of_kernel}
 use Rattle.dr_rings.proofs.Lookups.{same_rings, in_seats, pair_at}

@@ -1,4 +1,4 @@
-use Rattle.std.proofs.Common.{◌≡◌, ◌∙◌, ap, sym, Some}
+use Rattle.std.proofs.Common.{◌∙◌, ap, sym, Some}
 use Rattle.dr_rings.specs.Seated.{ring_of_kernel}
 use Rattle.dr_rings.proofs.Lookups.{pair_at}
 use Rattle.dr_rings.proofs.kernels.KernelSeats.note.Goals as goal

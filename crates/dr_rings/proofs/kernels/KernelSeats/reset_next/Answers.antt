@@ -1,4 +1,4 @@
-use Rattle.std.proofs.Common.{◌≡◌, ◌∙◌, ℕ, length, set, ap, subst, arith}
+use Rattle.std.proofs.Common.{◌≡◌, ◌∙◌, ℕ, set, ap, subst}
 use Rattle.dr_ring.specs.Seats.{KernelView}
 use Rattle.dr_rings.specs.Seated.{ring_of_kernel, IsReset}
 use Rattle.dr_rings.proofs.Lookups.{same_rings, in_seats, pair_at}

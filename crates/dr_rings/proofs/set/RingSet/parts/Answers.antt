@@ -1,4 +1,4 @@
-use Rattle.std.proofs.Common.{◌≡◌, ◌∙◌, sym, ap, map}
+use Rattle.std.proofs.Common.{◌∙◌, sym, ap, map}
 use Rattle.dr_rings.specs.Seated.{SetView, ring_of_kernel, ring_of_user}
 use Rattle.dr_rings.proofs.NewSeats.{kernels_of, users_of}
 use Rattle.dr_rings.proofs.set.RingSet.parts.Goals as goal

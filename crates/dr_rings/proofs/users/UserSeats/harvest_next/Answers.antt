@@ -1,4 +1,4 @@
-use Rattle.std.proofs.Common.{◌≡◌, ◌∙◌, ℕ, length, set, length-set, ap, subst, arith}
+use Rattle.std.proofs.Common.{◌≡◌, ◌∙◌, ℕ, set, length-set, ap, subst, arith}
 use Rattle.dr_ring.specs.Seats.{UserView}
 use Rattle.dr_rings.specs.Seated.{ring_of_user, IsHarvest}
 use Rattle.dr_rings.proofs.Lookups.{same_rings, in_seats, pair_at}
@@ -9,9 +9,9 @@ harvest_next-requires g c = (pair_at ring_of_user _ _ _ _ _ _ _ _ c.self.view_is
 
 pub invariant_of-self : goal.invariant_of-self
 invariant_of-self g c = (
-      same_rings ring_of_user ring_of_user c.self.inside.seats.items c.args.v c.index_mut.result.now c.harvest_next.new.self (in_seats ring_of_user _ _ _ c.self.invariant.0 c.requires) c.index_mut.ensures.value c.harvest_next.ensures.ring ∙ c.self.invariant.0,
-      omega (arith, length-set c.self.inside.seats.items c.args.v c.harvest_next.new.self, c.self.invariant.1),
-    )
+  same_rings ring_of_user ring_of_user c.self.inside.seats.items c.args.v c.index_mut.result.now c.harvest_next.new.self (in_seats ring_of_user _ _ _ c.self.invariant.0 c.requires) c.index_mut.ensures.value c.harvest_next.ensures.ring ∙ c.self.invariant.0,
+  omega (arith, length-set c.self.inside.seats.items c.args.v c.harvest_next.new.self, c.self.invariant.1),
+)
 
 pub returns : goal.returns
 returns g c =

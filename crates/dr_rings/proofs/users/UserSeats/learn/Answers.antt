@@ -1,4 +1,4 @@
-use Rattle.std.proofs.Common.{◌≡◌, ◌∙◌, length, set, length-set, ap, arith}
+use Rattle.std.proofs.Common.{◌≡◌, ◌∙◌, set, length-set, ap, arith}
 use Rattle.dr_ring.specs.Seats.{UserView}
 use Rattle.dr_rings.specs.Seated.{ring_of_user}
 use Rattle.dr_rings.proofs.Lookups.{same_rings, in_seats, pair_at}
@@ -15,9 +15,9 @@ learn-requires-clause-of_ring g c =
 
 pub invariant_of-self : goal.invariant_of-self
 invariant_of-self g c = (
-      same_rings ring_of_user ring_of_user c.self.inside.seats.items c.args.v c.index_mut.result.now c.learn.new.self (in_seats ring_of_user _ _ _ c.self.invariant.0 c.requires.vcpu) c.index_mut.ensures.value (ap ring_of_user c.learn.ensures.seat) ∙ c.self.invariant.0,
-      omega (arith, length-set c.self.inside.seats.items c.args.v c.learn.new.self, c.self.invariant.1),
-    )
+  same_rings ring_of_user ring_of_user c.self.inside.seats.items c.args.v c.index_mut.result.now c.learn.new.self (in_seats ring_of_user _ _ _ c.self.invariant.0 c.requires.vcpu) c.index_mut.ensures.value (ap ring_of_user c.learn.ensures.seat) ∙ c.self.invariant.0,
+  omega (arith, length-set c.self.inside.seats.items c.args.v c.learn.new.self, c.self.invariant.1),
+)
 
 pub returns : goal.returns
 returns g c =

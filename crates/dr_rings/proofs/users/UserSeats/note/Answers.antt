@@ -1,4 +1,4 @@
-use Rattle.std.proofs.Common.{◌≡◌, ◌∙◌, ap, sym, Some}
+use Rattle.std.proofs.Common.{◌∙◌, ap, sym, Some}
 use Rattle.dr_rings.specs.Seated.{ring_of_user}
 use Rattle.dr_rings.proofs.Lookups.{pair_at}
 use Rattle.dr_rings.proofs.users.UserSeats.note.Goals as goal
