@@ -36,7 +36,8 @@ impl Model for UserSeat {
           loaded = s.seat.me.0.loaded;
         } };
 
-    ghost invariant = { λ s. (s.seat.me.0.role ≡ User) × (s.harvested ≡ length s.seat.me.0.entries) };
+    ghost invariant = { λ s.
+        (s.seat.me.0.role ≡ User) × (s.harvested ≡ length s.seat.me.0.entries) };
 }
 
 impl UserSeat {
@@ -94,7 +95,8 @@ impl UserSeat {
         requires of_ring { note.ring ≡ ring.now.id }
         requires of_kernel { note.by_kernel ≡ true }
         ensures seat { self.new ≡ user_learnt self.old note.entries }
-        ensures prefix { IsPrefix self.new.harvested note.entries ⊎ IsPrefix note.entries self.new.harvested }
+        ensures prefix { IsPrefix self.new.harvested note.entries
+            ⊎ IsPrefix note.entries self.new.harvested }
     {
         ring.words.user_learn(&mut self.seat, note.into_seat());
     }

@@ -1,5 +1,5 @@
 -- Batches: how they grow, and that their entries are the pushed ones.
-use Rattle.std.proofs.Common.{◌≡◌, ℕ, zero, suc, ◌+◌, List, [], ◌∷◌, ◌++◌, length, set, sym, ap, ◌∙◌, ⊎_elim, subst, arith, Some, slice_get}
+use Rattle.std.proofs.Common.{◌≡◌, ℕ, zero, suc, ◌+◌, List, [], ◌∷◌, ◌++◌, length, set, sym, refl, ap, ◌∙◌, ⊎_elim, subst, arith, Some, slice_get}
 use mathlib.Core.List.{IsPrefix}
 use Rattle.dr_types.specs.declared.entry.Entry.{Entry}
 use Rattle.dr_ring.proofs.Fronts.{prefix_get}
@@ -35,6 +35,5 @@ seat_written (x ∷ xs) (suc v) s t u at new = seat_written xs v s t u at new
 pub first_stands : (old new : List UserView) (size v : ℕ) (s t u : UserView) (e : Entry) (entries : List Entry) → slice_get old v ≡ Some s → s.harvested ≡ [] → t ≡ user_harvested size s e → new ≡ set old v t → slice_get new v ≡ Some u → entries ≡ [] ++ e ∷ [] → StandFrom 0 entries u.harvested
 first_stands old new size v s t u e entries at empty moved written there one =
     let same : t ≡ u = seat_written old v s t u at (subst (λ (xs : List UserView). slice_get xs v ≡ Some u) written there) in
-    let whole : u.harvested ≡ entries = ap (λ (x : UserView). x.harvested) (sym same ∙ moved) ∙ (ap (λ (xs : List Entry). xs ++ e ∷ []) empty ∙ sym one) in
-    λ k d here. let place : k ≡ 0 + k = omega arith in
-    subst (λ (z : ℕ × List Entry). slice_get z.1 z.0 ≡ Some d) (λ i. (place i, sym whole i)) here
+    let whole : u.harvested ≡ [] ++ e ∷ [] = ap (λ (x : UserView). x.harvested) (sym same ∙ moved) ∙ ap (λ (xs : List Entry). xs ++ e ∷ []) empty in
+    subst (λ (z : List Entry × List Entry). StandFrom 0 z.0 z.1) (λ i. (sym one i, sym whole i)) (one_more_stands 0 [] [] e refl (none_stand 0 []))

@@ -5,8 +5,8 @@ use crate::lists::EntryList;
 use dr_ring::{Name, Note};
 use std::marker::PhantomData;
 
-/// Entries of vCPU `vcpu` that were harvested one after the other, the first of them with this number,
-/// and the note of its user seat that was taken behind their harvest.
+/// Entries of vCPU `vcpu` that were harvested one after the other, the first of them with number
+/// `first`, and the note of its user seat that was taken behind their harvest.
 #[derive(Drop)]
 pub struct Batch<N: Name> {
     pub vcpu: u32,

@@ -10,7 +10,8 @@ use dr_ring::{KernelSeat, Name, Note};
 use dr_types::{Entry, Listed};
 use std::marker::{Model, PhantomData};
 
-/// The kernel seats of one name, in the order of the vCPUs. Each call is that of vCPU v's seat on v's ring.
+/// The kernel seats of one name, in the order of the vCPUs. Each call is that of vCPU v's seat, on
+/// v's ring.
 #[derive(Drop)]
 pub struct KernelSeats<N: Name> {
     seats: Vec<KernelSeat>,
@@ -45,7 +46,8 @@ impl<N: Name> KernelSeats<N> {
         requires vcpu { v < length N.rings }
         requires room { IfAt self.old v (λ s. length s.pushed < s.reset + rings.now.size) }
         requires count { IfAt self.old v (λ s. length s.pushed < 2 ^ 64 - 1) }
-        ensures { MovesAt self.old self.new v (λ s t. t ≡ record s { pushed = s.pushed ++ e ∷ [] }) }
+        ensures { MovesAt self.old self.new v
+            (λ s t. t ≡ record s { pushed = s.pushed ++ e ∷ [] }) }
     {
         self.seats[v as usize].push(&rings.rings[v as usize], e);
     }

@@ -34,7 +34,7 @@ fn batch_of_one<N: Name>(
     }))
 }
 
-/// The kernel seat learns a batch's note: then the batch's entries are the pushed ones of its numbers.
+/// The kernel seat learns a batch's note: the batch's entries are the pushed ones of its numbers.
 fn take_in<N: Name>(rings: &Rings<N>, kernels: &mut KernelSeats<N>, batch: Batch<N>) -> EntryList
     ensures entries { result ≡ batch.entries }
     ensures pushed { HasAt kernels.old batch.vcpu (λ s. StandFrom batch.first result s.pushed) }

@@ -8,7 +8,8 @@ use dr_ring::{Name, Note, UserSeat};
 use dr_types::Entry;
 use std::marker::{Model, PhantomData};
 
-/// The user seats of one name, in the order of the vCPUs. Each call is that of vCPU v's seat on v's ring.
+/// The user seats of one name, in the order of the vCPUs. Each call is that of vCPU v's seat, on
+/// v's ring.
 #[derive(Drop)]
 pub struct UserSeats<N: Name> {
     seats: Vec<UserSeat>,
@@ -24,7 +25,8 @@ impl<N: Name> Model for UserSeats<N> {
 
     ghost view = { λ s. s.seats.items };
 
-    ghost invariant = { λ s. (map ring_of_user s.seats.items ≡ N.rings) × (length s.seats.items < 2 ^ 32) };
+    ghost invariant = { λ s.
+        (map ring_of_user s.seats.items ≡ N.rings) × (length s.seats.items < 2 ^ 32) };
 }
 
 impl<N: Name> UserSeats<N> {
