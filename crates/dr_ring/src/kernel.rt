@@ -1,6 +1,6 @@
 //! The kernel seat of a ring, which pushes and resets.
-ghost use Rattle.std.specs.Prelude.{◌≡◌, ◌+◌, ◌-◌, ◌^◌, ◌<◌, ◌≤◌, ◌↔◌, [], ◌∷◌, ◌++◌, length, IsTrue};
-ghost use Rattle.std.specs.Prelude.{Some, None, slice_get, IfSome, false};
+ghost use Rattle.std.specs.Prelude.{◌≡◌, ◌+◌, ◌-◌, ◌^◌, ◌<◌, ◌≤◌, ◌↔◌, [], ◌∷◌, ◌++◌, length};
+ghost use Rattle.std.specs.Prelude.{Some, None, slice_get, IfSome, IsTrue, false};
 ghost use mathlib.Core.List.{IsPrefix};
 ghost use Rattle.dr_ring.specs.Seats.{kernel_reset, kernel_learnt, kernel_note, LoadsNoReset};
 ghost use Rattle.dr_ring.specs.declared.view.Role.TheVariants.{Kernel};
@@ -14,8 +14,8 @@ use std::marker::Model;
 /// The bit that the user seat sets in the flags of an entry that it has harvested.
 const RESET: u32 = 2;
 
-/// The seat of a vCPU at its ring. Clauses see all that it pushed, how many of these it has reset, how
-/// many harvests it knows of, and the entry words that it has loaded.
+/// The seat of a vCPU at its ring. Clauses see all that it pushed, how many of these it has reset,
+/// how many harvests it knows of, and the entry words that it has loaded.
 #[derive(Drop)]
 pub struct KernelSeat {
     seat: RawSeat,
@@ -90,8 +90,9 @@ impl KernelSeat {
         self.used() >= soft
     }
 
-    /// Resets the entry at the reset number, if it was harvested. None where the entry word that this
-    /// call loaded there has no RESET bit; never while the seat knows of more harvests than resets.
+    /// Resets the entry at the reset number, if it was harvested. None where the entry word that
+    /// this call loaded there has no RESET bit; never while the seat knows of more harvests than
+    /// resets.
     pub fn reset_next(&mut self, ring: &Ring) -> Option<Entry>
         requires { self.old.ring ≡ ring.now.id }
         ensures ring { self.new.ring ≡ self.old.ring }
@@ -119,8 +120,8 @@ impl KernelSeat {
         Note::of_kernel(ring.words.kernel_note(&mut self.seat))
     }
 
-    /// Takes in what a user seat knew: all of it was pushed by this seat, which then knows of at least so
-    /// many harvests.
+    /// Takes in what a user seat knew: all of it was pushed by this seat, which then knows of at
+    /// least so many harvests.
     pub fn learn(&mut self, ring: &Ring, note: Note)
         requires ring { self.old.ring ≡ ring.now.id }
         requires of_ring { note.ring ≡ ring.now.id }

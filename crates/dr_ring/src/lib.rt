@@ -1,4 +1,4 @@
-//! Dirty rings: one kernel seat that pushes and resets entries, and one user seat that harvests them.
+//! Dirty rings: a kernel seat that pushes and resets entries, and a user seat that harvests them.
 #![tactic(auto)]
 
 mod kernel;

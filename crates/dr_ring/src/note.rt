@@ -25,7 +25,8 @@ impl Model for Note {
           entries = n.seat.me.0.entries;
         } };
 
-    ghost invariant = { λ n. (n.seat.me.0.role ≡ note_role (is_kernel_note n.seat.me.0.role)) × (n.seat.me.1 ≡ []) };
+    ghost invariant = { λ n.
+        (n.seat.me.0.role ≡ note_role (is_kernel_note n.seat.me.0.role)) × (n.seat.me.1 ≡ []) };
 }
 
 impl Note {

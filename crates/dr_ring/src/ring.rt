@@ -10,8 +10,8 @@ use dr_types::Memory;
 use std::alloc::Global;
 use std::marker::Model;
 
-/// The words of a dirty ring. Its type keeps that they are always those of what was pushed, harvested
-/// and reset: no access can be made that breaks the rule of the ring.
+/// The words of a dirty ring. Its type keeps that they are always those of what was pushed,
+/// harvested and reset: no access can be made that breaks the rule of the ring.
 #[derive(Drop)]
 pub struct Ring {
     pub(crate) words: Words,

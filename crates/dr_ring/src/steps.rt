@@ -1,5 +1,5 @@
-//! The steps of the two seats, one atomic access each. `n` and `reset` are numbers of entries, which
-//! count on; the place of an entry is its number modulo the size.
+//! The steps of the two seats, one atomic access each. `n` and `reset` are numbers of entries,
+//! which count on; the place of an entry is its number modulo the size.
 ghost use Rattle.std.specs.Prelude.{◌≡◌, ◌+◌, ◌*◌, ◌/◌, ◌^◌, ◌<◌, ◌≤◌, ◌⊎◌, []};
 ghost use Rattle.std.specs.Prelude.{length, slice_get, Some};
 ghost use mathlib.Core.List.{IsPrefix};

@@ -189,8 +189,8 @@ fn compare(ring: &Ring, kernel: &mut KernelSeat, user: &mut UserSeat)
     kernel.learn(ring, note);
 }
 
-/// An entry of which the user seat has learnt is harvested, and one of which the kernel seat has learnt
-/// is reset: both arms that say otherwise are proved never to come.
+/// An entry of which the user seat has learnt is harvested, and one of which the kernel seat has
+/// learnt is reset: both arms that say otherwise are proved never to come.
 fn through(ring: &Ring, kernel: &mut KernelSeat, user: &mut UserSeat, e: Entry) -> Entry
     requires kernel { kernel.old ≡ new_kernel ring.now.id }
     requires user { user.old ≡ new_user ring.now.id }

@@ -36,7 +36,8 @@ impl Model for UserSeat {
           loaded = s.seat.me.0.loaded;
         } };
 
-    ghost invariant = { λ s. (s.seat.me.0.role ≡ User) × (s.harvested ≡ length s.seat.me.0.entries) };
+    ghost invariant = { λ s.
+        (s.seat.me.0.role ≡ User) × (s.harvested ≡ length s.seat.me.0.entries) };
 }
 
 impl UserSeat {
@@ -54,8 +55,8 @@ impl UserSeat {
         UserSeat { seat, harvested: 0 }
     }
 
-    /// Harvests the next entry, if it was pushed. None where the entry word that this call loaded there
-    /// was not dirty; never while the seat knows of more pushes than harvests.
+    /// Harvests the next entry, if it was pushed. None where the entry word that this call loaded
+    /// there was not dirty; never while the seat knows of more pushes than harvests.
     pub fn harvest_next(&mut self, ring: &Ring) -> Option<Entry>
         requires { self.old.ring ≡ ring.now.id }
         ensures ring { self.new.ring ≡ self.old.ring }
@@ -87,14 +88,15 @@ impl UserSeat {
         Note::of_user(ring.words.user_note(&mut self.seat))
     }
 
-    /// Takes in what the kernel seat knew: of its pushes and this seat's harvests the one list begins the
-    /// other. The seat then knows of at least so many pushes.
+    /// Takes in what the kernel seat knew: of its pushes and this seat's harvests the one list
+    /// begins the other. The seat then knows of at least so many pushes.
     pub fn learn(&mut self, ring: &Ring, note: Note)
         requires ring { self.old.ring ≡ ring.now.id }
         requires of_ring { note.ring ≡ ring.now.id }
         requires of_kernel { note.by_kernel ≡ true }
         ensures seat { self.new ≡ user_learnt self.old note.entries }
-        ensures prefix { IsPrefix self.new.harvested note.entries ⊎ IsPrefix note.entries self.new.harvested }
+        ensures prefix { IsPrefix self.new.harvested note.entries
+            ⊎ IsPrefix note.entries self.new.harvested }
     {
         ring.words.user_learn(&mut self.seat, note.into_seat());
     }

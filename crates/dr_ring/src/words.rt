@@ -54,7 +54,8 @@ impl Words {
     pub fn pair(&self, seat: &mut RawSeat) -> RawSeat
         requires own { seat.old.table_id ≡ self.now.table.shared.table_id }
         requires role { seat.old.me.0.role ≡ Both }
-        ensures own { (seat.new.table_id ≡ seat.old.table_id) × (result.table_id ≡ seat.old.table_id) }
+        ensures own { seat.new.table_id ≡ seat.old.table_id }
+        ensures of_ring { result.table_id ≡ seat.old.table_id }
         ensures kernel { seat.new.me ≡ (record seat.old.me.0 { role = Kernel }, seat.old.me.1) }
         ensures user { result.me ≡ (record seat.old.me.0 { role = User }, []) }
     {

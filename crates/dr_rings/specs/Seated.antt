@@ -30,13 +30,17 @@ pub record IsNewSet (rings : List RingView) (kernels : List KernelView) (users :
   pub new_kernels : kernels ≡ map new_kernel (map id_of rings)
   pub new_users : users ≡ map new_user (map id_of rings)
 
--- P of the element at index v
+-- P of the element at index v, wherever there is one
 abbrev pub IfAt : {X : Type 0} → List X → ℕ → (X → Type 0) → Type 0
 IfAt {X} xs v P = (x : X) → slice_get xs v ≡ Some x → P x
 
+-- there is an element at index v, and P of it
+abbrev pub HasAt : {X : Type 0} → List X → ℕ → (X → Type 0) → Type 0
+HasAt {X} xs v P = (x : X) × (slice_get xs v ≡ Some x) × P x
+
 -- the seat at v goes from s to some t, and the others stay
 abbrev pub MovesAt : {S : Type 0} → List S → List S → ℕ → (S → S → Type 0) → Type 0
-MovesAt {S} old new v Moves = IfAt old v (λ s. (t : S) × (new ≡ slice_set old v t) × Moves s t)
+MovesAt {S} old new v Moves = (s : S) × (t : S) × (slice_get old v ≡ Some s) × (new ≡ slice_set old v t) × Moves s t
 
 -- What a call that resets does to a kernel seat, in a ring of this size: Some entry is the one at the reset number,
 -- and it is reset. None: the word loaded there had no RESET bit, and the seat knew of no more harvests than resets.

@@ -1,4 +1,4 @@
-//! The rings of all vCPUs with their seats, under the name of one run, and batches of harvested entries.
+//! The rings of all vCPUs with their seats, under the name of one run; batches of entries.
 #![tactic(auto)]
 
 mod batch;

@@ -20,11 +20,9 @@ impl<N: Name> Model for Rings<N> {
 
     ghost view = { λ r. record { vcpus = length r.rings.items; size = r.size } };
 
-    ghost invariant = {
-        λ r.
+    ghost invariant = { λ r.
         (map id_of r.rings.items ≡ N.rings) × All (λ x. x.size ≡ r.size) r.rings.items
-            × (length r.rings.items < 2 ^ 32)
-    };
+        × (length r.rings.items < 2 ^ 32) };
 }
 
 impl<N: Name> Rings<N> {
