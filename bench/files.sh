@@ -1,5 +1,5 @@
 #!/usr/bin/env bash
-# Measures `step` into files on two guests of 16,384 pages against a plain program that writes the same stream
+# Measures `step` into files on three guests of 16,384 pages against a plain program that writes the same stream
 # and image. Run it by hand on a quiet machine, once `rt run` or `rt ci` has built the program:
 #   bench/files.sh [PROGRAM [FOLDER]]
 set -eu
@@ -12,13 +12,16 @@ cc -O2 -o "$folder/plain" "$here/plain.c"
 
 # Four vCPUs that count: the guest of examples/counters.guest over more pages.
 sed 's/^slot 0 0 4096$/slot 0 0 14336/' "$here/../examples/counters.guest" > "$folder/count.guest"
-# One vCPU whose script paints each page once, in 16,384 ops.
-{
+# One vCPU whose script has an op a page: it paints the page, or stores one byte in it.
+one_op_a_page() {
+    local format="$1" factor="$2" page
     printf 'dirtyguest 1\nring 8\nreserve 2\nbuffer 0\npace 200000\nthreshold 0\nrounds 15\nquota 0\n'
     printf 'slot 0 0 %s\nvcpu\n' "$pages"
-    for ((page = 0; page < pages; page++)); do printf 'f %s %02x\n' "$page" $((page % 256)); done
+    for ((page = 0; page < pages; page++)); do printf "$format" $((page * factor)) $((page % 256)); done
     printf 'halt\n'
-} > "$folder/paint.guest"
+}
+one_op_a_page 'f %s %02x\n' 1 > "$folder/paint.guest"
+one_op_a_page 'w %s %02x\n' 4096 > "$folder/store.guest"
 
 step() {
     "$program" step --in "$folder/$1.guest" --stream "$folder/step.stream" --image "$folder/step.image" \
@@ -54,4 +57,5 @@ compare() {
 }
 compare count
 compare paint
+compare store
 echo 'the same streams and images'

@@ -1,12 +1,12 @@
 /* The plain program that `step` is measured against: it writes the stream and the image of a guest of so many
-   pages, record by record through buffers of 64 KiB. Either each page is painted with one byte (`paint`), or the
-   pages 0, 1, 2 and 14336 begin with the number 1,000 and all else is zero (`count`). */
+   pages, record by record through buffers of 64 KiB. Each page is painted with one byte (`paint`), or it is zero but for
+   its first byte (`store`), or the pages 0, 1, 2 and 14336 begin with the number 1,000 and all else is zero (`count`). */
 #include <stdint.h>
 #include <stdio.h>
 #include <stdlib.h>
 #include <string.h>
 
-static int is_painted;
+static enum { COUNT, PAINT, STORE } kind;
 
 static void number(FILE *file, uint32_t value)
 {
@@ -26,8 +26,10 @@ static FILE *create(const char *path)
 static void put_page(FILE *file, uint32_t p)
 {
     unsigned char page[4096];
-    memset(page, is_painted ? (int)(p % 256) : 0, sizeof page);
-    if (!is_painted && (p < 3 || p == 14336))
+    memset(page, kind == PAINT ? (int)(p % 256) : 0, sizeof page);
+    if (kind == STORE)
+        page[0] = p % 256;
+    if (kind == COUNT && (p < 3 || p == 14336))
         page[0] = 0xe8, page[1] = 3;
     if (fwrite(page, 1, sizeof page, file) != sizeof page)
         exit(4);
@@ -37,7 +39,7 @@ int main(int argc, char **argv)
 {
     if (argc != 5)
         return 1;
-    is_painted = strcmp(argv[1], "paint") == 0;
+    kind = strcmp(argv[1], "paint") == 0 ? PAINT : strcmp(argv[1], "store") == 0 ? STORE : COUNT;
     uint32_t pages = (uint32_t)atoi(argv[2]);
     FILE *stream = create(argv[3]);
     FILE *image = create(argv[4]);
