@@ -4,3 +4,5 @@ pub mod Numbers
 pub mod Copying
 pub mod Rowwise
 pub mod Sized
+pub mod Rooms
+pub mod Limits

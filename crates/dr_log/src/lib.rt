@@ -6,6 +6,7 @@ mod answers;
 mod deposits;
 mod log;
 mod memory;
+mod op_event;
 mod paces;
 mod page_reads;
 mod round_reads;

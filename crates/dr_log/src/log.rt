@@ -1,10 +1,12 @@
-ghost use Rattle.std.specs.Prelude.{◌≡◌, ◌<◌, ◌^◌, reverse, [], ◌∷◌, All, OnOk, OnErr, IfOk};
+ghost use Rattle.std.specs.Prelude.{◌≡◌, ◌<◌, ◌≤◌, ◌+◌, ◌^◌, true, reverse, [], ◌∷◌, All, OnOk, OnErr, IfOk};
 ghost use Rattle.dr_types.specs.Pages.{page_count};
 ghost use Rattle.dr_types.specs.Validity.{IsValid};
 ghost use Rattle.dr_history.specs.Legality.{IsLegalSoFar};
 ghost use Rattle.dr_history.specs.Lines.{FitsLine};
 ghost use Rattle.dr_history.specs.Rounds.{answered_pages};
 ghost use Rattle.dr_may.specs.May.{MayFollow};
+ghost use Rattle.dr_types.specs.Scripts.{vcpu_count};
+ghost use Rattle.dr_log.specs.Room.{HasEntry, HasRoomFor, has_page};
 
 use dr_history::{Event, History};
 use dr_state::Replay;
@@ -13,7 +15,7 @@ use std::alloc::Global;
 use std::marker::Model;
 
 /// A guest and what has happened to it, legal so far, with the state that its reads tell kept beside the events.
-/// Contracts see the guest and the events, the newest first.
+/// Contracts see the guest, the events, the newest first, and the room that was made for more.
 #[derive(Drop)]
 pub struct Log {
     alloc: Global,
@@ -25,11 +27,16 @@ pub struct Log {
 impl Model for Log {
     ghost use Rattle.dr_types.specs.Validity.{IsValid};
     ghost use Rattle.dr_state.specs.Whole.{IsReplay};
+    ghost use Rattle.dr_log.specs.Room.{room_of};
     ghost use Rattle.dr_log.specs.State.{State};
 
     ghost Value = { State };
 
-    ghost view = { λ c. record { guest = c.guest; past = c.history.past } };
+    ghost view = { λ c. record {
+      guest = c.guest;
+      past = c.history.past;
+      room = room_of c.history.spare c.replay.entries.rows.items c.replay.memory;
+    } };
 
     ghost invariant = { λ c. IsValid c.guest × IsReplay c.guest c.history.past c.replay };
 }
@@ -50,7 +57,8 @@ impl Log {
     #[tactic(auto, using(dr_state::proofs::Valid::can_replay))]
     pub fn new(alloc: Global, guest: &Guest) -> Result<Log, Memory>
         requires { IsValid guest.now }
-        ensures { IfOk result (λ log. log ≡ record { guest = guest.now; past = [] }) }
+        ensures guest { IfOk result (λ log. log.guest ≡ guest.now) }
+        ensures past { IfOk result (λ log. log.past ≡ []) }
     {
         Ok(Log {
             alloc,
@@ -77,6 +85,65 @@ impl Log {
         self.replay.take(&self.guest, &e, pages);
         self.history.push_kept(e);
         Ok(())
+    }
+
+    /// Room for so many more events. An `Err` changes neither guest nor history.
+    pub fn reserve(&mut self, more: u64) -> Result<(), Memory>
+        ensures guest { self.new.guest ≡ self.old.guest }
+        ensures past { self.new.past ≡ self.old.past }
+        ensures ok { OnOk result (more ≤ self.new.room.events) }
+    {
+        self.history.reserve(more)
+    }
+
+    /// Room for one more entry of a vCPU. An `Err` changes neither guest nor history.
+    pub fn make_entry_room(&mut self, v: u32) -> Result<(), Memory>
+        requires { v < vcpu_count self.old.guest }
+        ensures guest { self.new.guest ≡ self.old.guest }
+        ensures past { self.new.past ≡ self.old.past }
+        ensures events { self.new.room.events ≡ self.old.room.events }
+        ensures pages { self.new.room.pages ≡ self.old.room.pages }
+        ensures ok { OnOk result (HasEntry v self.new.room) }
+    {
+        self.replay.make_entry_room(v)
+    }
+
+    /// Memory of its own for a page. An `Err` changes neither guest nor history.
+    pub fn make_page_room(&mut self, page: u32) -> Result<(), Memory>
+        requires { page < page_count self.old.guest }
+        ensures guest { self.new.guest ≡ self.old.guest }
+        ensures past { self.new.past ≡ self.old.past }
+        ensures events { self.new.room.events ≡ self.old.room.events }
+        ensures entries { self.new.room.entries ≡ self.old.room.entries }
+        ensures ok { OnOk result (has_page page self.new.room ≡ true) }
+    {
+        self.replay.make_page_room(page)
+    }
+
+    /// Takes an event that breaks no rule, into the room that was made for it. It isn't judged.
+    #[tactic(auto, using(dr_state::proofs::Valid::can_replay))]
+    pub fn take(&mut self, e: Event)
+        requires fits { FitsLine e }
+        requires follows { MayFollow self.old.guest self.old.past e }
+        requires events { 1 ≤ self.old.room.events }
+        requires room { HasRoomFor self.old.guest e self.old.room }
+        ensures past { self.new.past ≡ e ∷ self.old.past }
+        ensures guest { self.new.guest ≡ self.old.guest }
+        ensures events { self.old.room.events ≤ self.new.room.events + 1 }
+        ensures pages { self.new.room.pages ≡ self.old.room.pages }
+    {
+        let _few = self.history.len();
+        let none = Listed::new(self.alloc);
+        self.replay.take(&self.guest, &e, none);
+        self.history.push_kept(e);
+    }
+
+    /// What has happened is legal so far, for a guest within the limits.
+    pub fn is_legal(&self)
+        ensures legal { IsLegalSoFar self.now.guest self.now.past }
+        ensures valid { IsValid self.now.guest }
+    {
+        let _alloc = &self.alloc;
     }
 
     /// The guest.

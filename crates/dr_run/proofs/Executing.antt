@@ -35,7 +35,7 @@ use Rattle.dr_may.proofs.Writes.{writes_alone}
 use Rattle.dr_run.specs.Going.{IsSilent, is_unlogged}
 use Rattle.dr_run.specs.Execution.{HasEnded, HasLeft, HaveRun, IsEarly, IsRunning, MayExecute, is_run}
 use Rattle.dr_run.proofs.Calm.{early_rests, early_runs, early_untouched}
-use Rattle.dr_run.proofs.Limits.{lies_in_one_page}
+use Rattle.dr_log.proofs.Limits.{lies_in_one_page}
 
 op_in_page : (guest : Guest) (o : Op) → IsOpOrHalt guest.slots o → OpFits guest o
 op_in_page guest (op.W address len value) is = lies_in_one_page guest address len is.4

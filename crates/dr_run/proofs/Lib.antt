@@ -1,5 +1,4 @@
 pub mod Sent
-pub mod Limits
 pub mod Calm
 pub mod Executing
 pub mod Rounding

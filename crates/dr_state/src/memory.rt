@@ -37,8 +37,9 @@ pub fn take(store: &mut PageStore, guest: &Guest, e: &Event)
     requires page { IsPageWithin (length store.old.pages) e.now }
     requires within { StoresWithin e.now }
     requires room { StoreFits guest.now e.now store.old }
-    ensures { (past : List Event) → store.old.pages ≡ memory guest.now past
+    ensures pages { (past : List Event) → store.old.pages ≡ memory guest.now past
         → store.new.pages ≡ memory guest.now (e.now ∷ past) }
+    ensures rooms { store.new.rooms ≡ store.old.rooms }
 {
     match e {
         Event::Write {
@@ -59,10 +60,11 @@ fn stored(store: &mut PageStore, page: u32, at: u32, len: u32, value: u64)
     requires page { page < length store.old.pages }
     requires room { has_room page store.old ≡ true }
     requires within { at + len ≤ 4096 }
-    ensures { (guest : Guest) (past : List Event) (v i addr : ℕ)
+    ensures pages { (guest : Guest) (past : List Event) (v i addr : ℕ)
         → page_of_address guest addr ≡ Some page → addr % 4096 ≡ at
         → store.old.pages ≡ memory guest past
         → store.new.pages ≡ memory guest (Event.Write v i addr len value ∷ past) }
+    ensures rooms { store.new.rooms ≡ store.old.rooms }
 {
     store.write(page, at, len, value);
 }
@@ -70,14 +72,16 @@ fn stored(store: &mut PageStore, page: u32, at: u32, len: u32, value: u64)
 fn painted(store: &mut PageStore, page: u32, byte: u8)
     requires page { page < length store.old.pages }
     requires room { has_room page store.old ≡ true }
-    ensures { (guest : Guest) (past : List Event) (v i : ℕ) → store.old.pages ≡ memory guest past
+    ensures pages { (guest : Guest) (past : List Event) (v i : ℕ) → store.old.pages ≡ memory guest past
         → store.new.pages ≡ memory guest (Event.Paint v i page byte ∷ past) }
+    ensures rooms { store.new.rooms ≡ store.old.rooms }
 {
     store.paint(page, byte);
 }
 
 #[tactic(auto, using(crate::proofs::Stored::unseen))]
 fn unseen(store: &mut PageStore)
-    ensures { (guest : Guest) (past : List Event) (e : Event) → IsUnstored guest e
+    ensures pages { (guest : Guest) (past : List Event) (e : Event) → IsUnstored guest e
         → store.old.pages ≡ memory guest past → store.new.pages ≡ memory guest (e ∷ past) }
+    ensures rooms { store.new.rooms ≡ store.old.rooms }
 {}

@@ -1,10 +1,11 @@
-ghost use Rattle.std.specs.Prelude.{◌≡◌, ◌<◌, ◌≤◌, ◌^◌, [], ◌∷◌, IfOk, ℕ, List, All, IfSome, OnOk, length, vec_len, Option, None};
+ghost use Rattle.std.specs.Prelude.{◌≡◌, ◌<◌, ◌≤◌, ◌^◌, [], ◌∷◌, true, IfOk, ℕ, List, All, IfSome, OnOk, length, vec_len, Option, None};
 ghost use Rattle.dr_types.specs.declared.guest.Guest.{Guest};
 ghost use Rattle.dr_types.specs.Pages.{page_count};
 ghost use Rattle.dr_history.specs.declared.event.Event.{Event};
 ghost use Rattle.dr_history.specs.Legality.{broken};
 ghost use Rattle.dr_history.specs.Memory.{page_bytes, loaded};
 ghost use Rattle.dr_history.specs.Rounds.{answered_pages};
+ghost use Rattle.dr_memory.specs.Stores.{has_room};
 ghost use Rattle.dr_state.specs.Opened.{OpeningFits, HasRoomAt};
 ghost use Rattle.dr_state.specs.Pages.{IsPageWithin, ClosingFits, page_reset};
 ghost use Rattle.dr_state.specs.Stores.{StoreFits};
@@ -85,6 +86,7 @@ impl Replay {
         requires { v < vec_len self.old.entries.rows }
         ensures replay { (guest : Guest) (past : List Event) → IsReplay guest past self.old
             → IsReplay guest past self.new }
+        ensures pages { self.new.memory.rooms ≡ self.old.memory.rooms }
         ensures ok { OnOk result (HasRoomAt v self.new.entries.rows.items) }
     {
         self.entries.make_room(v)
@@ -99,8 +101,19 @@ impl Replay {
         self.protection.closing.make_room()
     }
 
+    /// Memory of its own for a page.
+    pub fn make_page_room(&mut self, page: u32) -> Result<(), Memory>
+        requires { page < length self.old.memory.pages }
+        ensures replay { (guest : Guest) (past : List Event) → IsReplay guest past self.old
+            → IsReplay guest past self.new }
+        ensures entries { self.new.entries ≡ self.old.entries }
+        ensures ok { OnOk result (has_room page self.new.memory ≡ true) }
+    {
+        self.memory.make_room(page)
+    }
+
     /// Room for what an event stores.
-    fn make_page_room(&mut self, guest: &Guest, e: &Event) -> Result<(), Memory>
+    fn make_store_room(&mut self, guest: &Guest, e: &Event) -> Result<(), Memory>
         requires few { page_count guest.now < 2 ^ 32 }
         requires whole { length self.old.memory.pages ≡ page_count guest.now }
         requires page { IsPageWithin (length self.old.memory.pages) e.now }
@@ -125,7 +138,7 @@ impl Replay {
         match e {
             Event::Opened { v, .. } => self.make_entry_room(*v),
             Event::Reset { .. } => self.make_closing_room(),
-            Event::Write { .. } | Event::Paint { .. } => self.make_page_room(guest, e),
+            Event::Write { .. } | Event::Paint { .. } => self.make_store_room(guest, e),
             _ => Ok(()),
         }
     }
@@ -135,8 +148,9 @@ impl Replay {
         requires guest { CanReplay guest.now }
         requires fits { CanTake guest.now e.now self.old }
         requires copy { pages ≡ answered_pages e.now }
-        ensures { (past : List Event) → broken guest.now past e.now ≡ None
+        ensures replay { (past : List Event) → broken guest.now past e.now ≡ None
             → IsReplay guest.now past self.old → IsReplay guest.now (e.now ∷ past) self.new }
+        ensures pages { self.new.memory.rooms ≡ self.old.memory.rooms }
     {
         let reset = self.page_reset(e);
         self.throttles.take(guest, &self.vcpus, e);

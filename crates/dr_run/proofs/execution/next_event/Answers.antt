@@ -9,8 +9,8 @@ use Rattle.dr_script.proofs.Fits.{op_fits}
 use Rattle.dr_run.proofs.Executing.{has_ended, may_execute}
 use Rattle.dr_run.proofs.execution.next_event.Goals as goal
 
-pub event_of-requires-clause-fits : goal.event_of-requires-clause-fits
-event_of-requires-clause-fits c =
+pub op_event-requires-clause-fits : goal.op_event-requires-clause-fits
+op_event-requires-clause-fits c =
     let log = c.args.log.now in
     let valid : IsValid log.guest = subst IsValid c.guest-guest.ensures.is c.guest-guest.ensures.valid in
     let fits : IfSome (operation log.guest c.args.v (ops c.args.v log.past)) (IsOpOrHalt log.guest.slots) =
@@ -32,4 +32,4 @@ returns-clause-next c =
     let fits : IfSome (operation log.guest c.args.v (ops c.args.v log.past)) (IsOpOrHalt log.guest.slots) =
     op_fits log.guest c.args.v (ops c.args.v log.past) valid in
     let is : operation log.guest c.args.v (ops c.args.v log.past) ≡ Some c.in_ok-op.op = sym c.next_op.ensures ∙ c.in_ok-op.was in
-    may_execute log.guest log.past c.args.v c.in_ok-op.op c.event_of.result valid c.requires.vcpu c.requires.running is (rw is at fits) c.event_of.ensures.is c.event_of.ensures.fits
+    may_execute log.guest log.past c.args.v c.in_ok-op.op c.op_event.result valid c.requires.vcpu c.requires.running is (rw is at fits) c.op_event.ensures.is c.op_event.ensures.fits

@@ -4,8 +4,8 @@ use Rattle.dr_memory.specs.Stores.{Store, bytes_of}
 use Rattle.dr_state.proofs.Stored.{stored}
 use Rattle.dr_state.proofs.memory.stored.Goals as goal
 
-pub returns : goal.returns
-returns c = λ guest past v i addr place offset is.
+pub returns-clause-pages : goal.returns-clause-pages
+returns-clause-pages c = λ guest past v i addr place offset is.
     let bytes : List ℕ = bytes_of c.args.page c.args.store.now in
     ap (λ (it : Store). it.pages) c.write.ensures
     ∙ stored guest past v i addr c.args.len c.args.value c.args.page c.args.at c.args.store.now.pages bytes _ is

@@ -1,4 +1,4 @@
--- How large the numbers of a run are.
+-- How large the numbers of a guest are.
 use Rattle.std.proofs.Common.{◌≡◌, ℕ, ◌%◌, ◌<◌, ◌≤◌, ◌^◌, true, List, Option, Some, None, is_some, arith}
 use Rattle.std.specs.Prelude.{IfSome}
 use Rattle.std.proofs.lemmas.Bool.{le-leb, false≢true}

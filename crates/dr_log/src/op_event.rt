@@ -1,0 +1,88 @@
+ghost use Rattle.std.specs.Prelude.{◌≡◌, ◌<◌, true, is_some};
+ghost use Rattle.dr_types.specs.Pages.{page_of_frame};
+ghost use Rattle.dr_types.specs.Scripts.{vcpu_count};
+ghost use Rattle.dr_types.specs.Validity.{IsValid};
+ghost use Rattle.dr_history.specs.Execution.{ops};
+ghost use Rattle.dr_history.specs.Lines.{FitsLine};
+ghost use Rattle.dr_may.specs.Operations.{op_event, page_or_zero, value_at};
+ghost use Rattle.dr_script.specs.Fits.{IsOpOrHalt};
+
+use crate::log::Log;
+use dr_history::Event;
+use dr_slots::page_of_frame;
+use dr_types::{Guest, Op};
+
+/// How many ops a vCPU has executed.
+#[tactic(auto, using(crate::proofs::Limits::few_ops))]
+fn ops_done(log: &Log, v: u32) -> u32
+    requires { v < vcpu_count log.now.guest }
+    ensures { result ≡ ops v log.now.past }
+{
+    log.is_legal();
+    log.ops(v) as u32
+}
+
+/// The page of a frame that an op fills.
+#[tactic(auto, using(crate::proofs::Limits::few_pages))]
+fn filled_page(guest: &Guest, gfn: u64) -> u32
+    requires valid { IsValid guest.now }
+    requires mapped { is_some (page_of_frame guest.now.slots gfn) ≡ true }
+    ensures { result ≡ page_or_zero (page_of_frame guest.now.slots gfn) }
+{
+    match page_of_frame(guest, gfn) {
+        Some(page) => page,
+        None => unreachable!(),
+    }
+}
+
+/// The value that an op loads from an address.
+#[tactic(auto, using(crate::proofs::Limits::lies_in_one_page, crate::proofs::Limits::value_is))]
+fn value_loaded(log: &Log, addr: u64) -> u64
+    requires { IsOpOrHalt log.now.guest.slots (Op.R addr) }
+    ensures { result ≡ value_at log.now.guest log.now.past addr }
+{
+    log.loaded(addr)
+}
+
+/// What a vCPU's next op becomes.
+impl Log {
+    /// The event of a vCPU's op, as the next that it executes.
+    pub fn op_event(&self, v: u32, op: Op) -> Event
+        requires vcpu { v < vcpu_count self.now.guest }
+        requires fits { IsOpOrHalt self.now.guest.slots op }
+        ensures is { result ≡ op_event self.now.guest v self.now.past op }
+        ensures fits { FitsLine result }
+    {
+        let i = ops_done(self, v);
+        match op {
+            Op::W { addr, len, value } => Event::Write {
+                v,
+                i,
+                addr,
+                len,
+                value,
+            },
+            Op::F { gfn, byte } => Event::Paint {
+                v,
+                i,
+                page: filled_page(self.guest(), gfn),
+                byte,
+            },
+            Op::R { addr } => Event::Read {
+                v,
+                i,
+                addr,
+                value: value_loaded(self, addr),
+            },
+            Op::S { addr } => Event::Write {
+                v,
+                i,
+                addr,
+                len: 8,
+                value: self.register(v),
+            },
+            Op::A { .. } | Op::Nap { .. } => Event::Local { v, i },
+            Op::Halt => Event::Halted { v, i },
+        }
+    }
+}

@@ -1,0 +1,5 @@
+pub mod Firsts
+pub mod Buffers
+pub mod Turns
+pub mod Between
+pub mod Due
