@@ -1,13 +1,16 @@
 -- A vCPU executes its next operation.
 use Rattle.std.proofs.Common.{◌≡◌, ℕ, ◌+◌, ◌-◌, ◌<◌, ◌≤◌, max, Bool, true, false, cond, List, ◌∷◌, Option, Some, None, is_some, refl, ap, sym, ◌∙◌, subst, arith}
-use Rattle.std.specs.Prelude.{◌==◌, ◌||◌, not}
+use Rattle.std.specs.Prelude.{◌==◌, ◌||◌, not, IfSome}
 use Rattle.std.specs.List.{list_any}
 use Rattle.std.proofs.lemmas.Bool.{false≢true, true≢false}
 use Rattle.dr_types.specs.declared.guest.Guest.{Guest}
 use Rattle.dr_types.specs.declared.guest.Op.{Op}
+use Rattle.dr_types.specs.declared.guest.Op.TheVariants as op
 use Rattle.dr_types.specs.Pages.{page_count}
 use Rattle.dr_types.specs.Scripts.{operation, vcpu_count}
 use Rattle.dr_types.specs.Validity.{IsValid}
+use Rattle.dr_script.specs.Fits.{IsOpOrHalt}
+use Rattle.dr_script.proofs.Fits.{op_fits as op_is_valid}
 use Rattle.dr_history.specs.declared.event.Event.{Event}
 use Rattle.dr_history.specs.declared.event.Event.TheVariants.{Opened, Filled}
 use Rattle.dr_history.specs.Kinds.{is_switched}
@@ -19,7 +22,7 @@ use Rattle.dr_history.specs.Rules.{vcpu_of_op}
 use Rattle.dr_history.specs.Vcpus.{halted, stopped, kicked, is_full}
 use Rattle.dr_law.specs.Room.{unpushed}
 use Rattle.dr_may.specs.May.{MayFollow, AtRest, WritesNext}
-use Rattle.dr_may.specs.Operations.{op_event, op_page}
+use Rattle.dr_may.specs.Operations.{op_event, op_page, OpFits}
 use Rattle.dr_may.proofs.Legally.{opens_legally, fills_legally}
 use Rattle.dr_may.proofs.Operations.{op_writes, op_quiet, op_of}
 use Rattle.dr_may.proofs.Rest.{rest_due, ends_before}
@@ -27,7 +30,7 @@ use Rattle.dr_may.proofs.Running.{running_here, has_operation}
 use Rattle.dr_may.proofs.Writes.{writes_alone, writes_filled, writes_opened}
 use Rattle.dr_turns.specs.Between.{AtTurnsEnd, MayTurn, OthersFew}
 use Rattle.dr_turns.specs.Turns.{refusal, event_behind, op_behind, executed}
-use Rattle.dr_turns.proofs.Operations.{valid_ends, valid_some, op_fits as fits_page, page_within as page_in, op_rest, op_counts}
+use Rattle.dr_turns.proofs.Operations.{valid_ends, valid_some, op_in_page, frame_page, op_rest, op_counts}
 
 none_case : {X : Type 0} (b : Bool) (t : X) (rest : Option X) → cond b (Some t) rest ≡ None → (b ≡ false) × (rest ≡ None)
 none_case true t rest h = cc
@@ -56,15 +59,30 @@ may_turn guest past over v valid legal end hv free =
       some = has_operation guest past v (valid_ends guest valid) (valid_some guest v valid hv) legal b.0;
     }
 
+-- an operation of a valid guest has its bytes in one page
+pub op_fits : (guest : Guest) (v i : ℕ) (o : Op) → IsValid guest → operation guest v i ≡ Some o → OpFits guest o
+op_fits guest v i o valid is =
+    op_in_page guest o (subst (λ (p : Option Op). IfSome p (IsOpOrHalt guest.slots)) is (op_is_valid guest v i valid))
+
+-- the page that an operation writes is one of the guest
+pub page_within : (guest : Guest) (o : Op) (page : ℕ) → op_page guest o ≡ Some page → OpFits guest o → page < page_count guest
+page_within guest (op.W address len value) page is fits = frame_page guest _ page is
+page_within guest (op.F frame byte) page is fits = frame_page guest frame page is
+page_within guest (op.S address) page is fits = frame_page guest _ page is
+page_within guest (op.R address) page is fits = cc
+page_within guest (op.A n) page is fits = cc
+page_within guest (op.Nap us) page is fits = cc
+page_within guest op.Halt page is fits = cc
+
 -- an operation that writes no page follows the rules
 pub quiet_follows : (guest : Guest) (past : List Event) (v : ℕ) (o : Op) → MayTurn guest past v → operation guest v (ops v past) ≡ Some o → op_page guest o ≡ None → MayFollow guest past (op_event guest v past o)
-quiet_follows guest past v o t is place = op_quiet guest past v o t.run.vcpu t.end.rests t.run is (fits_page guest v (ops v past) o t.valid is) place
+quiet_follows guest past v o t is place = op_quiet guest past v o t.run.vcpu t.end.rests t.run is (op_fits guest v (ops v past) o t.valid is) place
 
 -- the event of an operation that writes a page is the vCPU's next operation, and writes that page
 pub event_writes : (guest : Guest) (past : List Event) (v page : ℕ) (o : Op) → MayTurn guest past v → operation guest v (ops v past) ≡ Some o → op_page guest o ≡ Some page → WritesNext guest past v page (op_event guest v past o)
 event_writes guest past v page o t is place =
-    let fits = fits_page guest v (ops v past) o t.valid is in
-    op_writes guest past v page o t.run.vcpu (page_in guest o page place fits) is fits place
+    let fits = op_fits guest v (ops v past) o t.valid is in
+    op_writes guest past v page o t.run.vcpu (page_within guest o page place fits) is fits place
 
 -- a write comes alone before Start and where its page is cached
 pub alone_follows : (guest : Guest) (past : List Event) (v page : ℕ) (e : Event) → MayTurn guest past v → WritesNext guest past v page e → (not (started past) || cached v page past) ≡ true → MayFollow guest past e

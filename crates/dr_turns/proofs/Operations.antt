@@ -45,7 +45,8 @@ valid_some guest v valid lt = let some : 1 ≤ script_length guest v = (halts_la
 lies_in_one_page : (guest : Guest) (address bytes : ℕ) → Lies guest.slots address bytes → in_one_page guest address bytes ≡ true
 lies_in_one_page guest address bytes lies = rw lies.mapped (le-leb _ _ lies.in_page)
 
-op_in_page : (guest : Guest) (o : Op) → IsOpOrHalt guest.slots o → OpFits guest o
+-- an operation of these slots has its bytes in one page
+pub op_in_page : (guest : Guest) (o : Op) → IsOpOrHalt guest.slots o → OpFits guest o
 op_in_page guest (op.W address len value) is = lies_in_one_page guest address len is.4
 op_in_page guest (op.F frame byte) is = is.2
 op_in_page guest (op.R address) is = lies_in_one_page guest address 8 is.1
@@ -53,11 +54,6 @@ op_in_page guest (op.S address) is = lies_in_one_page guest address 8 is.1
 op_in_page guest (op.A n) is = tt
 op_in_page guest (op.Nap us) is = tt
 op_in_page guest op.Halt is = tt
-
--- an operation of a valid guest has its bytes in one page
-pub op_fits : (guest : Guest) (v i : ℕ) (o : Op) → IsValid guest → operation guest v i ≡ Some o → OpFits guest o
-op_fits guest v i o valid is =
-    op_in_page guest o (subst (λ (p : Option Op). IfSome p (IsOpOrHalt guest.slots)) is (op_is_valid guest v i valid))
 
 within_case : (here : Bool) (first base pages frame more page : ℕ) (rest : Option ℕ) → (here ≡ true → (base ≤ frame) × (frame < base + pages)) → (rest ≡ Some page → page < first + pages + more)
     → cond here (Some (first + (frame - base))) rest ≡ Some page → page < first + (pages + more)
@@ -76,18 +72,9 @@ page_from_within first (row ∷ rows) frame page h =
     (λ here. let parts = and_parts _ _ here in (leb-true row.base frame parts.0, ltb-true frame (row.base + row.pages) parts.1))
     (page_from_within (first + row.pages) rows frame page) h
 
-frame_page : (guest : Guest) (frame page : ℕ) → page_from 0 guest.slots frame ≡ Some page → page < page_count guest
+-- the page of a frame is one of the guest
+pub frame_page : (guest : Guest) (frame page : ℕ) → page_from 0 guest.slots frame ≡ Some page → page < page_count guest
 frame_page guest frame page is = let lt : page < 0 + pages_of_slots guest.slots = page_from_within 0 guest.slots frame page is in omega (arith, lt)
-
--- the page that an operation writes is one of the guest
-pub page_within : (guest : Guest) (o : Op) (page : ℕ) → op_page guest o ≡ Some page → OpFits guest o → page < page_count guest
-page_within guest (op.W address len value) page is fits = frame_page guest _ page is
-page_within guest (op.F frame byte) page is fits = frame_page guest frame page is
-page_within guest (op.S address) page is fits = frame_page guest _ page is
-page_within guest (op.R address) page is fits = cc
-page_within guest (op.A n) page is fits = cc
-page_within guest (op.Nap us) page is fits = cc
-page_within guest op.Halt page is fits = cc
 
 -- behind an operation the history is at rest
 pub op_rest : (guest : Guest) (past : List Event) (e : Event) (v : ℕ) → vcpu_of_op e ≡ Some v → list_any is_switched past ≡ false → AtRest guest (e ∷ past)

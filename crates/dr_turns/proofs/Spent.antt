@@ -48,9 +48,9 @@ test_parts : (a b c d e f g : Bool) → (a && not b && not c && not d && not e &
 test_parts true false false false false false true h = (refl, refl, refl, refl, refl, refl, refl)
 test_parts a b c d e f g h = cc
 
-is_is : (guest : Guest) (past : List Event) → is_spent guest past ≡ true → Spent guest past
+spent_facts : (guest : Guest) (past : List Event) → is_spent guest past ≡ true → Spent guest past
 unfolding is_spent
-is_is guest past h =
+spent_facts guest past h =
     let p = test_parts (started past) (is_some (unanswered past)) (is_some (left guest past)) (list_any is_switched past) (stopped past) (few_answered guest (last_synced past)) (nat_le guest.settings.rounds (asks past)) h in
     record { begun = p.0; answered = some_none (unanswered past) p.1; copied = some_none (left guest past) p.2; here = p.3; runs = p.4; many = p.5; asked = leb-true guest.settings.rounds (asks past) p.6 }
 
@@ -149,7 +149,7 @@ spent_due guest now past s =
 -- the migrator answers that the budget is spent exactly where it is
 pub budget_is_spent : (guest : Guest) (now : ℕ) (past : List Event) → ((advanced guest now past).0 ≡ advance.Budget) ↔ (is_spent guest past ≡ true)
 budget_is_spent guest now past =
-    (λ h. spent_is guest past (due_spent guest now past h), λ h. ap (λ (p : Advance × List Event). p.0) (spent_due guest now past (is_is guest past h)))
+    (λ h. spent_is guest past (due_spent guest now past h), λ h. ap (λ (p : Advance × List Event). p.0) (spent_due guest now past (spent_facts guest past h)))
 
 -- and then no event comes
 pub spent_stays : (guest : Guest) (now : ℕ) (past : List Event) → (advanced guest now past).0 ≡ advance.Budget → (advanced guest now past).1 ≡ past
