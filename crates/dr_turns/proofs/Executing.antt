@@ -1,7 +1,6 @@
 -- A vCPU executes its next operation.
-use Rattle.std.proofs.Common.{◌≡◌, ℕ, ◌+◌, ◌-◌, ◌<◌, ◌≤◌, max, Bool, true, false, cond, List, ◌∷◌, Option, Some, None, is_some, refl, ap, sym, ◌∙◌, subst, arith}
+use Rattle.std.proofs.Common.{◌≡◌, ℕ, ◌+◌, ◌-◌, ◌<◌, ◌≤◌, max, Bool, true, false, cond, List, ◌∷◌, Option, Some, None, is_some, refl, sym, subst, arith}
 use Rattle.std.specs.Prelude.{◌==◌, ◌||◌, not, IfSome}
-use Rattle.std.specs.List.{list_any}
 use Rattle.std.proofs.lemmas.Bool.{false≢true, true≢false}
 use Rattle.dr_types.specs.declared.guest.Guest.{Guest}
 use Rattle.dr_types.specs.declared.guest.Op.{Op}
@@ -13,7 +12,6 @@ use Rattle.dr_script.specs.Fits.{IsOpOrHalt}
 use Rattle.dr_script.proofs.Fits.{op_fits as op_is_valid}
 use Rattle.dr_history.specs.declared.event.Event.{Event}
 use Rattle.dr_history.specs.declared.event.Event.TheVariants.{Opened, Filled}
-use Rattle.dr_history.specs.Kinds.{is_switched}
 use Rattle.dr_history.specs.Entries.{opens, pushes, resets}
 use Rattle.dr_history.specs.Execution.{ops}
 use Rattle.dr_history.specs.Legality.{IsLegalSoFar}

@@ -1,6 +1,6 @@
 -- The operations of a valid guest, and what they leave.
-use Rattle.std.proofs.Common.{◌≡◌, ℕ, ◌+◌, ◌-◌, ◌<◌, ◌≤◌, Bool, true, false, cond, List, [], ◌∷◌, Option, Some, None, refl, ap, sym, ◌∙◌, subst, arith, inl, inr, length, slice_get}
-use Rattle.std.specs.Prelude.{◌&&◌, nat_le, nat_lt, IfSome}
+use Rattle.std.proofs.Common.{◌≡◌, ℕ, ◌+◌, ◌-◌, ◌<◌, ◌≤◌, Bool, true, false, cond, List, [], ◌∷◌, Option, Some, None, refl, arith, inl, inr, length, slice_get}
+use Rattle.std.specs.Prelude.{◌&&◌, nat_le, nat_lt}
 use Rattle.std.specs.List.{list_any}
 use Rattle.std.proofs.lemmas.Bool.{le-leb, leb-true, ltb-true, and_parts, cases_lt}
 use Rattle.std.proofs.lemmas.Option.{slice_get_past}
@@ -10,10 +10,9 @@ use Rattle.dr_types.specs.declared.guest.SlotRow.{SlotRow}
 use Rattle.dr_types.specs.declared.guest.Op.{Op}
 use Rattle.dr_types.specs.declared.guest.Op.TheVariants as op
 use Rattle.dr_types.specs.Pages.{page_count, page_from, pages_of_slots}
-use Rattle.dr_types.specs.Scripts.{operation, script_of, vcpu_count}
+use Rattle.dr_types.specs.Scripts.{script_of, vcpu_count}
 use Rattle.dr_types.specs.Validity.{IsValid, Lies}
 use Rattle.dr_script.specs.Fits.{IsOpOrHalt}
-use Rattle.dr_script.proofs.Fits.{op_fits as op_is_valid}
 use Rattle.dr_script.proofs.Halts.{halts_last}
 use Rattle.dr_history.specs.declared.event.Event.{Event}
 use Rattle.dr_history.specs.declared.event.Event.TheVariants.{Read, Write, Paint, Local, Halted}
@@ -23,7 +22,7 @@ use Rattle.dr_history.specs.Rules.{in_one_page, vcpu_of_op}
 use Rattle.dr_law.specs.Length.{script_length}
 use Rattle.dr_law.specs.Room.{unpushed}
 use Rattle.dr_may.specs.May.{AtRest, Ends}
-use Rattle.dr_may.specs.Operations.{op_page, OpFits}
+use Rattle.dr_may.specs.Operations.{OpFits}
 use Rattle.dr_may.proofs.Rest.{settles}
 
 none_of : (o : Option (List Item)) → o ≡ None → length (script_of o) ≡ 0

@@ -1,8 +1,8 @@
 -- Where all rounds were asked and the last left too many pages.
-use Rattle.std.proofs.Common.{◌≡◌, ℕ, ◌+◌, ◌≤◌, Bool, true, false, cond, List, ◌∷◌, Option, Some, None, is_some, refl, ap, sym, ◌∙◌, arith}
+use Rattle.std.proofs.Common.{◌≡◌, ℕ, ◌≤◌, Bool, true, false, cond, List, ◌∷◌, Option, Some, None, is_some, refl, ap, ◌∙◌}
 use Rattle.std.specs.Prelude.{◌&&◌, ◌==◌, ◌↔◌, not, nat_le, nat_lt}
 use Rattle.std.specs.List.{list_any}
-use Rattle.std.proofs.lemmas.Bool.{and_parts, not-true, le-leb, leb-true, ltb-false, le-ltb}
+use Rattle.std.proofs.lemmas.Bool.{le-leb, leb-true, ltb-false, le-ltb}
 use Rattle.dr_types.specs.declared.guest.Guest.{Guest}
 use Rattle.dr_history.specs.declared.event.Event.{Event}
 use Rattle.dr_history.specs.declared.event.Event.TheVariants.{Stopped}
@@ -14,7 +14,7 @@ use Rattle.dr_history.specs.Rounds.{asks, unanswered, last_synced, few_answered}
 use Rattle.dr_turns.specs.declared.answers.Advance.{Advance}
 use Rattle.dr_turns.specs.declared.answers.Advance.TheVariants as advance
 use Rattle.dr_turns.specs.Firsts.{first_unpaced, first_kicked, first_unreset}
-use Rattle.dr_turns.specs.Due.{begun, some_closing, flushed_answer, answered_behind, reset_answer, answered, left, asked, asked_where_paced, next_round, after_stop, after_copies, copied, answered_or_copied, advanced, is_spent}
+use Rattle.dr_turns.specs.Due.{begun, some_closing, answered_behind, reset_answer, answered, left, asked, asked_where_paced, next_round, after_stop, after_copies, copied, answered_or_copied, advanced, is_spent}
 
 -- nothing is due any more, but the last answer has too many pages
 record Spent (guest : Guest) (past : List Event) : Type 0 where
@@ -103,7 +103,7 @@ record Last (guest : Guest) (past : List Event) : Type 0 where
 after_last : (guest : Guest) (past : List Event) → (after_copies guest past).0 ≡ advance.Budget → Last guest past
 after_last guest past h =
     let p = copies_case (list_any is_switched past) (stopped past) (few_answered guest (last_synced past)) (nat_lt (asks past) guest.settings.rounds) past (Stopped ∷ past) (after_stop past) (next_round guest past)
-        (stop_case (list_any is_asked (since is_stopped past)) _ _ _) (next_case (asks past == 0) past (first_unpaced guest (since is_asked past) past)) h in
+    (stop_case (list_any is_asked (since is_stopped past)) _ _ _) (next_case (asks past == 0) past (first_unpaced guest (since is_asked past) past)) h in
     record { here = p.0; runs = p.1; many = p.2; asked = ltb-false (asks past) guest.settings.rounds p.3 }
 
 copied_case : (guest : Guest) (past : List Event) (page : Option ℕ) → (copied guest past page).0 ≡ advance.Budget → (page ≡ None) × Last guest past
