@@ -124,4 +124,3 @@ is_spent guest past =
 abbrev pub run_end : Guest → List Event → RunEnd
 run_end guest past =
     if list_any is_switched past then end.Switched else if is_spent guest past then end.Budget else end.Open
-

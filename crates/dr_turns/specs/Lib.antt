@@ -1,4 +1,5 @@
 pub mod Firsts
+pub mod Least
 pub mod Buffers
 pub mod Turns
 pub mod Between
