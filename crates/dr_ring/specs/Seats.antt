@@ -1,5 +1,5 @@
 -- What contracts see of a ring, of its two seats and of a note.
-use Rattle.std.specs.Prelude.{◌≡◌, ℕ, Bool, true, false, List, [], ◌∷◌, ◌++◌, length, ◌+◌, max}
+use Rattle.std.specs.Prelude.{◌≡◌, ℕ, Bool, true, false, List, [], ◌∷◌, ◌++◌, length, ◌+◌, ◌*◌, max}
 use Rattle.atomic_table.specs.Seated.{TableId}
 use Rattle.dr_types.specs.declared.entry.Entry.{Entry}
 use Rattle.dr_types.specs.Words.{first_word}
@@ -12,6 +12,10 @@ use Rattle.dr_ring.specs.declared.view.Role.TheVariants.{KernelNote, UserNote}
 pub record RingView : Type 0 where
   pub id : TableId
   pub size : ℕ
+
+-- the ring of this identity has so many places
+abbrev pub IsOfSize : ℕ → TableId → Type 0
+IsOfSize size id = id.words ≡ 1 + 2 * size
 
 -- The kernel seat of a ring: all that it pushed, how many of these it has reset, and how many harvests it knows of.
 -- `loaded` has each entry word that it loaded, behind the index of the word.

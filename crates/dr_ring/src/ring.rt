@@ -1,7 +1,7 @@
 //! A dirty ring, as its two seats share it.
 ghost use Rattle.std.specs.Prelude.{◌≡◌, ◌≤◌, [], IfOk};
 ghost use Rattle.std.specs.Int.{IsPowerOfTwo};
-ghost use Rattle.dr_ring.specs.Seats.{RingView, new_kernel, new_user};
+ghost use Rattle.dr_ring.specs.Seats.{RingView, IsOfSize, new_kernel, new_user};
 
 use crate::kernel::KernelSeat;
 use crate::user::UserSeat;
@@ -42,5 +42,12 @@ impl Ring {
             KernelSeat::first(seat),
             UserSeat::first(user),
         ))
+    }
+
+    /// How many places a ring has is a fact of its identity.
+    pub fn is_sized(&self)
+        ensures { IsOfSize self.now.size self.now.id }
+    {
+        let _size = self.words.size;
     }
 }

@@ -1,5 +1,5 @@
 -- Batches: how they grow, and that their entries are the pushed ones.
-use Rattle.std.proofs.Common.{◌≡◌, ℕ, zero, suc, ◌+◌, List, [], ◌∷◌, ◌++◌, length, set, sym, refl, ap, ◌∙◌, ⊎_elim, subst, arith, Some, slice_get}
+use Rattle.std.proofs.Common.{◌≡◌, ℕ, zero, suc, ◌+◌, List, [], ◌∷◌, ◌++◌, length, set, sym, refl, ap, ◌∙◌, ⊎_elim, subst, Some, slice_get}
 use mathlib.Core.List.{IsPrefix}
 use Rattle.dr_types.specs.declared.entry.Entry.{Entry}
 use Rattle.dr_ring.proofs.Fronts.{prefix_get}

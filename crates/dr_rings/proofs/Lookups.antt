@@ -3,7 +3,7 @@ use Rattle.std.proofs.Common.{◌≡◌, ℕ, zero, suc, ◌<◌, ◌^◌, List,
 use Rattle.std.proofs.lemmas.List.{length-map}
 use Rattle.std.proofs.lemmas.Option.{slice_get_read, slice_get-map}
 use Rattle.atomic_table.specs.Seated.{TableId}
-use Rattle.dr_ring.specs.Seats.{RingView}
+use Rattle.dr_ring.specs.Seats.{RingView, IsOfSize}
 use Rattle.dr_rings.specs.Seated.{id_of}
 
 module _ {S R : Type 0} (f : S → TableId) (g : R → TableId) where
@@ -45,7 +45,7 @@ pub record IsPair {S : Type 0} (f : S → TableId) (now : List S) (ids : List Ta
   pub at : slice_get now v ≡ Some s
   pub named : slice_get ids v ≡ Some (f s)
 
-pub pair_at : {S : Type 0} (f : S → TableId) (seats now : List S) (rings : List RingView) (ids : List TableId) (size v : ℕ) (s : S) (r : RingView) → seats ≡ now → map f seats ≡ ids → (map id_of rings ≡ ids) × All (λ x. x.size ≡ size) rings × (length rings < 2 ^ 32) → v < length ids → s ≡ get_or seats v s → r ≡ get_or rings v r → IsPair f now ids size v s r
+pub pair_at : {S : Type 0} (f : S → TableId) (seats now : List S) (rings : List RingView) (ids : List TableId) (size v : ℕ) (s : S) (r : RingView) → seats ≡ now → map f seats ≡ ids → (map id_of rings ≡ ids) × All (λ x. x.size ≡ size) rings × (length rings < 2 ^ 32) × All (λ id. IsOfSize size id) ids → v < length ids → s ≡ get_or seats v s → r ≡ get_or rings v r → IsPair f now ids size v s r
 pair_at {S} f seats now rings ids size v s r same a b l e h =
     let inside : v < length seats = in_seats f seats ids v a l in
     let here : slice_get now v ≡ Some s = there seats now v s same (omega (arith, ap length same)) e in

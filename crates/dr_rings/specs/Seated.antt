@@ -2,7 +2,7 @@
 use Rattle.std.specs.Prelude.{◌≡◌, ℕ, ◌≤◌, List, map, length, All, slice_get, slice_set, Some, None, Option, IfSome}
 use Rattle.atomic_table.specs.Seated.{TableId}
 use Rattle.dr_types.specs.declared.entry.Entry.{Entry}
-use Rattle.dr_ring.specs.Seats.{RingView, KernelView, UserView, new_kernel, new_user, kernel_reset, user_harvested, LoadsNoReset, LoadsNoDirty}
+use Rattle.dr_ring.specs.Seats.{RingView, KernelView, UserView, IsOfSize, new_kernel, new_user, kernel_reset, user_harvested, LoadsNoReset, LoadsNoDirty}
 
 -- a set of new rings, in the order of the vCPUs, and the size of each
 pub record SetView : Type 0 where
@@ -27,6 +27,7 @@ ring_of_user s = s.ring
 -- new rings of one size, and the two new seats of each, in one order
 pub record IsNewSet (rings : List RingView) (kernels : List KernelView) (users : List UserView) (size : ℕ) : Type 0 where
   pub sizes : All (λ r. r.size ≡ size) rings
+  pub sized : All (λ id. IsOfSize size id) (map id_of rings)
   pub new_kernels : kernels ≡ map new_kernel (map id_of rings)
   pub new_users : users ≡ map new_user (map id_of rings)
 

@@ -1,4 +1,5 @@
 ghost use Rattle.std.specs.Prelude.{◌≡◌, ◌<◌, ◌^◌, map, length, All};
+ghost use Rattle.dr_ring.specs.Seats.{IsOfSize};
 ghost use Rattle.dr_rings.specs.Seated.{RingsView, id_of};
 
 use dr_ring::{Name, Ring};
@@ -14,6 +15,7 @@ pub struct Rings<N: Name> {
 
 impl<N: Name> Model for Rings<N> {
     ghost use Rattle.std.specs.Prelude.{◌≡◌, ◌<◌, ◌^◌, map, length, All};
+    ghost use Rattle.dr_ring.specs.Seats.{IsOfSize};
     ghost use Rattle.dr_rings.specs.Seated.{RingsView, id_of};
 
     ghost Value = { RingsView };
@@ -22,7 +24,7 @@ impl<N: Name> Model for Rings<N> {
 
     ghost invariant = { λ r.
         (map id_of r.rings.items ≡ N.rings) × All (λ x. x.size ≡ r.size) r.rings.items
-        × (length r.rings.items < 2 ^ 32) };
+        × (length r.rings.items < 2 ^ 32) × All (λ id. IsOfSize r.size id) N.rings };
 }
 
 impl<N: Name> Rings<N> {
@@ -30,6 +32,7 @@ impl<N: Name> Rings<N> {
         requires named { map id_of rings.items ≡ N.rings }
         requires sizes { All (λ x. x.size ≡ size) rings.items }
         requires few { length rings.items < 2 ^ 32 }
+        requires sized { All (λ id. IsOfSize size id) N.rings }
         ensures { result ≡ record { vcpus = length rings.items; size = size } }
     {
         Rings {
@@ -52,5 +55,12 @@ impl<N: Name> Rings<N> {
         ensures { result ≡ self.now.size }
     {
         self.size
+    }
+
+    /// The size is a fact of the name's rings.
+    pub fn are_sized(&self)
+        ensures { All (λ id. IsOfSize self.now.size id) N.rings }
+    {
+        let _rings = &self.rings;
     }
 }

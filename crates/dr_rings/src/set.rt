@@ -1,7 +1,7 @@
 //! New rings with their seats, one for each vCPU.
-ghost use Rattle.std.specs.Prelude.{◌≡◌, ◌≤◌, map, length, IfOk};
+ghost use Rattle.std.specs.Prelude.{◌≡◌, ◌≤◌, map, length, All, IfOk};
 ghost use Rattle.std.specs.Int.{IsPowerOfTwo};
-ghost use Rattle.dr_ring.specs.Seats.{new_kernel, new_user};
+ghost use Rattle.dr_ring.specs.Seats.{IsOfSize, new_kernel, new_user};
 
 use crate::kernels::KernelSeats;
 use crate::rings::Rings;
@@ -57,6 +57,7 @@ impl RingSet {
         let mut users = Vec::new(alloc);
         for _ in 0..vcpus {
             let (ring, kernel, user) = Ring::new(alloc, size)?;
+            ring.is_sized();
             rings.push(ring)?;
             kernels.push(kernel)?;
             users.push(user)?;
@@ -67,6 +68,20 @@ impl RingSet {
             users,
             size,
         })
+    }
+
+    /// The number of vCPUs, each of which has one ring.
+    pub fn vcpus(&self) -> u32
+        ensures { result ≡ length self.now.rings }
+    {
+        self.rings.len() as u32
+    }
+
+    /// The size is a fact of the rings.
+    pub fn are_sized(&self)
+        ensures { All (λ id. IsOfSize self.now.size id) self.now.rings }
+    {
+        let _size = self.size;
     }
 
     /// The rings and their new seats, under a name that fixes these rings.
