@@ -52,7 +52,8 @@ impl Core {
     /// A judge that has seen no event. An `Err` comes for want of memory alone.
     pub fn new(alloc: Global, guest: &Guest) -> Result<Core, Memory>
         requires { IsValid guest.now }
-        ensures { IfOk result (λ core. core ≡ record { guest = guest.now; past = [] }) }
+        ensures guest { IfOk result (λ core. core.guest ≡ guest.now) }
+        ensures past { IfOk result (λ core. core.past ≡ []) }
     {
         Ok(Core {
             log: Log::new(alloc, guest)?,
