@@ -116,7 +116,6 @@ write_follows_filled guest past v page e t m = writes_filled guest past v page e
 pub write_follows_opened : (guest : Guest) (past : List Event) (v k page : ℕ) (e : Event) → MayTurn guest past v → WritesNext guest past v page e → MayFollow guest (Opened v k page ∷ past) e
 write_follows_opened guest past v k page e t m = writes_opened guest past v k page e t.run (t.end.buffers v) m
 
--- What holds behind an operation in each of its three places holds behind what is executed.
 write_case : (P : List Event → Type 0) (alone writes : Bool) (a b c : List Event) → P a → P b → P c → P (cond alone a (cond writes b c))
 write_case P true writes a b c x y z = x
 write_case P false true a b c x y z = y
@@ -135,7 +134,8 @@ by_op P guest past v (Some x) n a f o =
     let is : vcpu_of_op e ≡ Some v = op_of guest past v x in
     by_place P v (op_event guest v past x) (op_page guest x) past (a (op_event guest v past x) is) (λ page. f (op_event guest v past x) page is) (λ page. o (op_event guest v past x) page is)
 
-by_executed : (P : List Event → Type 0) (guest : Guest) (past : List Event) (v : ℕ) → (operation guest v (ops v past) ≡ None → P past) → ((e : Event) → vcpu_of_op e ≡ Some v → P (e ∷ past)) → ((e : Event) (page : ℕ) → vcpu_of_op e ≡ Some v → P (e ∷ Filled v page ∷ past))
+-- what holds behind an operation in each of its three places holds behind what is executed
+pub by_executed : (P : List Event → Type 0) (guest : Guest) (past : List Event) (v : ℕ) → (operation guest v (ops v past) ≡ None → P past) → ((e : Event) → vcpu_of_op e ≡ Some v → P (e ∷ past)) → ((e : Event) (page : ℕ) → vcpu_of_op e ≡ Some v → P (e ∷ Filled v page ∷ past))
     → ((e : Event) (page : ℕ) → vcpu_of_op e ≡ Some v → P (e ∷ Opened v (opens v past) page ∷ past)) → P (executed guest v past)
 unfolding executed
 by_executed P guest past v n a f o = by_op P guest past v (operation guest v (ops v past)) n a f o

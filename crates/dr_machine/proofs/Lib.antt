@@ -1,0 +1,5 @@
+pub mod Rooms
+pub mod Pushing
+pub mod Machines
+pub mod Leaving
+pub mod Reading

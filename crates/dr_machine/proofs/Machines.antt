@@ -1,0 +1,102 @@
+-- What ties a machine's log to its rings, and what each turn leaves of it.
+use Rattle.std.proofs.Common.{◌≡◌, ℕ, ◌+◌, ◌<◌, ◌≤◌, max, false, refl, List, [], ◌∷◌, map, Option, Some, None, sym, ap, ◌∙◌, subst, arith}
+use Rattle.atomic_table.specs.Seated.{TableId}
+use Rattle.dr_types.specs.declared.guest.Guest.{Guest}
+use Rattle.dr_types.specs.declared.guest.SlotRow.{SlotRow}
+use Rattle.dr_types.specs.declared.guest.Why.{Why}
+use Rattle.dr_types.specs.Scripts.{operation}
+use Rattle.dr_history.specs.declared.event.Event.{Event}
+use Rattle.dr_history.specs.declared.event.Event.TheVariants.{Start, Read, Write, Paint, Local, Halted, Opened, Filled, Exited}
+use Rattle.dr_history.specs.Entries.{opens}
+use Rattle.dr_history.specs.Execution.{ops}
+use Rattle.dr_history.specs.Legality.{IsLegalSoFar}
+use Rattle.dr_history.specs.Protection.{started}
+use Rattle.dr_history.specs.Rules.{vcpu_of_op}
+use Rattle.dr_law.specs.Room.{unpushed}
+use Rattle.dr_may.specs.May.{MayFollow}
+use Rattle.dr_log.specs.State as log
+use Rattle.dr_ring.specs.Seats.{KernelView, new_kernel}
+use Rattle.dr_seats.specs.Seats.{AreSeats, IsAside}
+use Rattle.dr_seats.proofs.Seating.{begin_seats, seats_stay}
+use Rattle.dr_turns.specs.Between.{AtTurnsEnd, MayTurn}
+use Rattle.dr_turns.specs.Buffers.{all_pushed}
+use Rattle.dr_turns.specs.Due.{begun}
+use Rattle.dr_turns.specs.Firsts.{first_unpaced}
+use Rattle.dr_turns.specs.Turns.{executed}
+use Rattle.dr_turns.proofs.Executing.{by_executed}
+use Rattle.dr_turns.proofs.Starting.{start_ends, start_follows}
+use Rattle.dr_machine.specs.Tied.{AreRingsFor, AreTied}
+
+-- a new log and new seats
+pub ties_new : (guest held : Guest) (rings : List TableId) (slots : List SlotRow) (log : log.State) (seats : List KernelView) → held ≡ guest → AreRingsFor guest rings → slots ≡ held.slots → log.guest ≡ held → log.past ≡ [] → seats ≡ map new_kernel rings → AreTied guest rings slots log seats
+ties_new guest held rings slots log seats is are slots_are log_is none new = record {
+  guest_is = log_is ∙ is;
+  slots_are = slots_are ∙ ap (λ (g : Guest). g.slots) is;
+  rings_are = are;
+  seats_are = rw (none, new) (begin_seats guest rings);
+}
+
+-- room that is made changes no tie
+pub ties_room : (guest : Guest) (rings : List TableId) (slots : List SlotRow) (old new : log.State) (seats : List KernelView) → AreTied guest rings slots old seats → new.guest ≡ old.guest → new.past ≡ old.past → AreTied guest rings slots new seats
+ties_room guest rings slots old new seats tied same past = record {
+  guest_is = same ∙ tied.guest_is;
+  slots_are = tied.slots_are;
+  rings_are = tied.rings_are;
+  seats_are = rw past tied.seats_are;
+}
+
+-- nor does an event that pushes and resets nothing
+pub ties_aside : (guest : Guest) (rings : List TableId) (slots : List SlotRow) (old new : log.State) (seats : List KernelView) (e : Event) → IsAside e → AreTied guest rings slots old seats → IsLegalSoFar old.guest old.past → MayFollow guest old.past e → new.guest ≡ old.guest → new.past ≡ e ∷ old.past → AreTied guest rings slots new seats
+ties_aside guest rings slots old new seats e aside tied legal follows same past = record {
+  guest_is = same ∙ tied.guest_is;
+  slots_are = tied.slots_are;
+  rings_are = tied.rings_are;
+  seats_are = rw past (seats_stay guest old.past e seats (subst (λ (g : Guest). IsLegalSoFar g old.past) tied.guest_is legal) follows aside tied.seats_are);
+}
+
+op_aside : (e : Event) (v : ℕ) → vcpu_of_op e ≡ Some v → IsAside e
+op_aside (Read w i a x) v is = tt
+op_aside (Write w i a l x) v is = tt
+op_aside (Paint w i q b) v is = tt
+op_aside (Local w i) v is = tt
+op_aside (Halted w i) v is = tt
+op_aside e v is = cc
+
+seats_behind : (guest : Guest) (past : List Event) (e : Event) (seats : List KernelView) → IsAside e → IsLegalSoFar guest (e ∷ past) → AreSeats guest past seats → AreSeats guest (e ∷ past) seats
+seats_behind guest past e seats aside legal are = seats_stay guest past e seats legal.1 (record { kept = legal.0 }) aside are
+
+seats_executed : (guest : Guest) (past : List Event) (v : ℕ) (seats : List KernelView) → AreSeats guest past seats → IsLegalSoFar guest (executed guest v past) → AreSeats guest (executed guest v past) seats
+seats_executed guest past v seats are =
+    by_executed (λ (xs : List Event). IsLegalSoFar guest xs → AreSeats guest xs seats) guest past v
+    (λ none legal. are)
+    (λ e is legal. seats_behind guest past e seats (op_aside e v is) legal are)
+    (λ e page is legal. seats_behind guest (Filled v page ∷ past) e seats (op_aside e v is) legal (seats_behind guest past (Filled v page) seats tt legal.1 are))
+    (λ e page is legal. seats_behind guest (Opened v (opens v past) page ∷ past) e seats (op_aside e v is) legal (seats_behind guest past (Opened v (opens v past) page) seats tt legal.1 are))
+
+-- nor does what a vCPU executes
+pub ties_executed : (guest : Guest) (rings : List TableId) (slots : List SlotRow) (old new : log.State) (seats : List KernelView) (v : ℕ) → AreTied guest rings slots old seats → IsLegalSoFar new.guest new.past → new.guest ≡ guest → new.past ≡ executed guest v old.past → AreTied guest rings slots new seats
+ties_executed guest rings slots old new seats v tied legal same past = record {
+  guest_is = same;
+  slots_are = tied.slots_are;
+  rings_are = tied.rings_are;
+  seats_are =
+      let now : IsLegalSoFar guest (executed guest v old.past) = rw (sym past, sym same) legal in
+      rw past (seats_executed guest old.past v seats tied.seats_are now);
+}
+
+-- a buffer has no more entries than it takes, between turns
+pub few_unpushed : (guest : Guest) (past : List Event) (v : ℕ) → AtTurnsEnd guest past → unpushed v past < max 1 guest.settings.buffer
+few_unpushed guest past v end = end.buffers v
+
+-- where logging begins, or a vCPU isn't paced
+begun_case : (guest : Guest) (rings : List TableId) (slots : List SlotRow) (old new : log.State) (seats : List KernelView) (at : ℕ) (found : Option ℕ) → found ≡ first_unpaced guest old.past old.past → AreTied guest rings slots old seats → IsLegalSoFar old.guest old.past → AtTurnsEnd guest old.past → started old.past ≡ false
+    → new.guest ≡ old.guest → new.past ≡ (begun at old.past found).1 → AreTied guest rings slots new seats × AtTurnsEnd guest new.past
+begun_case guest rings slots old new seats at (Some v) is tied legal end fresh same past = (ties_room guest rings slots old new seats tied same past, rw past end)
+begun_case guest rings slots old new seats at None is tied legal end fresh same past =
+    let ours : IsLegalSoFar guest old.past = subst (λ (g : Guest). IsLegalSoFar g old.past) tied.guest_is legal in
+    (ties_aside guest rings slots old new seats (Start at) tt tied legal (start_follows guest old.past at ours end fresh (sym is)) same past,
+    rw past (start_ends guest old.past at ours end fresh))
+
+pub ties_begun : (guest : Guest) (rings : List TableId) (slots : List SlotRow) (old new : log.State) (seats : List KernelView) (at : ℕ) → AreTied guest rings slots old seats → IsLegalSoFar old.guest old.past → AtTurnsEnd guest old.past → started old.past ≡ false
+    → new.guest ≡ old.guest → new.past ≡ (begun at old.past (first_unpaced guest old.past old.past)).1 → AreTied guest rings slots new seats × AtTurnsEnd guest new.past
+ties_begun guest rings slots old new seats at = begun_case guest rings slots old new seats at (first_unpaced guest old.past old.past) refl

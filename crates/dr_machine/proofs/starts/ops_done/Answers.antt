@@ -1,0 +1,10 @@
+use Rattle.std.proofs.Common.{◌≤◌, arith}
+use Rattle.dr_history.specs.Execution.{ops}
+use Rattle.dr_log.proofs.Limits.{few_ops}
+use Rattle.dr_machine.proofs.starts.ops_done.Goals as goal
+
+pub overflow_cast-result : goal.overflow_cast-result
+overflow_cast-result c =
+    let log = c.args.log.now in
+    let few : ops c.args.v log.past ≤ 200000 = few_ops log.guest c.args.v log.past c.is_legal.ensures.valid c.is_legal.ensures.legal c.requires in
+    rw c.ops.ensures (omega arith)

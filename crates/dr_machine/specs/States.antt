@@ -1,0 +1,10 @@
+-- What a machine shows.
+use Rattle.std.specs.Prelude.{Bool, List}
+use Rattle.dr_history.specs.declared.event.Event.{Event}
+use Rattle.dr_ring.specs.Seats.{KernelView}
+
+-- what has happened, the newest event first, the kernel seat of each vCPU, and whether the run was given up
+pub record State : Type 0 where
+  pub past : List Event
+  pub seats : List KernelView
+  pub over : Bool

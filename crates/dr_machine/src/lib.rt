@@ -1,0 +1,16 @@
+//! The machine: a guest, its legal history and the kernel seats of its rings. Each turn appends its
+//! block of events; none is judged, since each is legal by proof.
+#![tactic(auto)]
+
+mod exits;
+mod machine;
+mod ops;
+mod pushes;
+mod reads;
+mod rig;
+mod starts;
+mod writes;
+
+pub use dr_turns::{Advance, RunEnd, Turn};
+pub use machine::Machine;
+pub use rig::{Rig, new_rig};

@@ -1,0 +1,219 @@
+ghost use Rattle.std.specs.Prelude.{◌≡◌, ◌<◌, ◌≤◌, [], true, false, map, length, Ok, Some, None, IfOk, OnOk, OnErr, IfSome};
+ghost use Rattle.dr_types.specs.Pages.{page_count};
+ghost use Rattle.dr_types.specs.Scripts.{operation, vcpu_count};
+ghost use Rattle.dr_types.specs.Validity.{IsValid};
+ghost use Rattle.dr_history.specs.Execution.{ops};
+ghost use Rattle.dr_history.specs.Legality.{IsLegal};
+ghost use Rattle.dr_history.specs.Memory.{page_bytes};
+ghost use Rattle.dr_history.specs.Protection.{started};
+ghost use Rattle.dr_history.specs.Vcpus.{in_guest};
+ghost use Rattle.dr_ring.specs.Seats.{new_kernel};
+ghost use Rattle.dr_seats.specs.Seats.{AreSeats};
+ghost use Rattle.dr_turns.specs.Between.{AtTurnsEnd, MayTurn};
+ghost use Rattle.dr_turns.specs.Buffers.{all_pushed};
+ghost use Rattle.dr_turns.specs.Due.{advanced, run_end};
+ghost use Rattle.dr_turns.specs.Turns.{refusal, op_step, after_op, exit_reason, after_exit, all_out};
+ghost use Rattle.dr_machine.specs.Tied.{AreRingsFor};
+
+use crate::exits::leave;
+use crate::ops::{full_buffer, make_room, next_op, step_after};
+use crate::pushes::push_where_full;
+use crate::reads::{all_out, run_end};
+use crate::starts::begin;
+use crate::writes::execute;
+use dr_bytes::PageBytes;
+use dr_history::History;
+use dr_log::Log;
+use dr_ring::Name;
+use dr_rings::{KernelSeats, Rings};
+use dr_slots::Slots;
+use dr_turns::{Advance, RunEnd, Turn};
+use dr_types::{Guest, Memory, Op, Why};
+use std::alloc::Global;
+use std::marker::Model;
+
+/// The guest that the name fixes, what has happened to it, and the kernel seats of its rings. Its type
+/// keeps that the history is legal, that nothing is owed between turns, and that each seat has pushed
+/// and reset what the events say.
+#[derive(Drop)]
+pub struct Machine<N: Name> {
+    log: Log,
+    seats: KernelSeats<N>,
+    slots: Slots,
+    over: bool,
+}
+
+impl<N: Name> Model for Machine<N> {
+    ghost use Rattle.std.specs.Prelude.{◌≡◌};
+    ghost use Rattle.dr_turns.specs.Between.{AtTurnsEnd};
+    ghost use Rattle.dr_machine.specs.States.{State};
+    ghost use Rattle.dr_machine.specs.Tied.{AreTied};
+
+    ghost Value = { State };
+
+    ghost view = { λ m. record { past = m.log.past; seats = m.seats; over = m.over } };
+
+    ghost invariant = { λ m. AreTied N.guest N.rings m.slots m.log m.seats × AtTurnsEnd N.guest m.log.past };
+}
+
+impl<N: Name> Machine<N> {
+    /// A machine of which nothing has happened.
+    pub(crate) fn new(alloc: Global, guest: &Guest, seats: KernelSeats<N>) -> Result<Machine<N>, Memory>
+        requires guest { guest.now ≡ N.guest }
+        requires valid { IsValid guest.now }
+        requires rings { AreRingsFor N.guest N.rings }
+        requires seats { seats ≡ map new_kernel N.rings }
+        ensures past { IfOk result (λ m. m.past ≡ []) }
+        ensures seats { IfOk result (λ m. m.seats ≡ seats) }
+        ensures over { IfOk result (λ m. m.over ≡ false) }
+    {
+        let slots = Slots::new(alloc, &guest.slots)?;
+        Ok(Machine {
+            log: Log::new(alloc, guest)?,
+            seats,
+            slots,
+            over: false,
+        })
+    }
+
+    /// What the type of a machine keeps: its history is legal, and the list of each kernel seat has its
+    /// vCPU's entries from the first to the last that is pushed, with their number that is reset.
+    pub fn keeps(&self)
+        ensures legal { IsLegal N.guest self.now.past }
+        ensures seats { AreSeats N.guest self.now.past self.now.seats }
+        ensures rings { AreRingsFor N.guest N.rings }
+    {
+        self.log.is_legal();
+    }
+
+    /// Executes a vCPU's next op, or tells why not.
+    pub fn op(&mut self, rings: &Rings<N>, v: u32) -> Result<Turn, Memory>
+        requires { v < vcpu_count N.guest }
+        ensures refused { let why = refusal N.guest self.old.over v self.old.past in
+            IfSome why (λ turn. result ≡ Ok turn) }
+        ensures stays { let why = refusal N.guest self.old.over v self.old.past in
+            IfSome why (λ turn. self.new ≡ self.old) }
+        ensures done { let next = operation N.guest v (ops v self.old.past) in
+            refusal N.guest self.old.over v self.old.past ≡ None
+            → IfOk result (λ turn. turn ≡ Turn.Done (op_step next)) }
+        ensures appended { refusal N.guest self.old.over v self.old.past ≡ None
+            → OnOk result (self.new.past ≡ after_op N.guest v self.old.past) }
+        ensures over { self.new.over ≡ self.old.over }
+        ensures err { OnErr result (self.new ≡ self.old) }
+    {
+        match next_op(&self.log, self.over, v) {
+            Err(turn) => Ok(turn),
+            Ok(op) => self.execute(rings, v, op),
+        }
+    }
+
+    /// Executes an op, which is the vCPU's next.
+        fn execute(&mut self, rings: &Rings<N>, v: u32, op: Op) -> Result<Turn, Memory>
+        requires vcpu { v < vcpu_count N.guest }
+        requires turn { MayTurn N.guest self.old.past v }
+        requires op { operation N.guest v (ops v self.old.past) ≡ Some op }
+        ensures done { IfOk result (λ turn. turn ≡ Turn.Done (op_step (Some op))) }
+        ensures appended { OnOk result (self.new.past ≡ after_op N.guest v self.old.past) }
+        ensures over { self.new.over ≡ self.old.over }
+        ensures err { OnErr result (self.new ≡ self.old) }
+    {
+        make_room(&mut self.log, v, op)?;
+        execute(&mut self.log, v, op);
+        self.log.is_legal();
+        push_where_full(&mut self.log, &mut self.seats, rings, &self.slots, v);
+        Ok(Turn::Done(step_after(op)))
+    }
+
+    /// A vCPU leaves the guest, behind its whole buffer; `None` where it isn't in the guest.
+    pub fn exit(&mut self, rings: &Rings<N>, v: u32) -> Result<Option<Why>, Memory>
+        requires { v < vcpu_count N.guest }
+        ensures outside { in_guest v self.old.past ≡ false → result ≡ Ok None }
+        ensures stays { in_guest v self.old.past ≡ false → self.new ≡ self.old }
+        ensures done { in_guest v self.old.past ≡ true
+            → IfOk result (λ why. why ≡ Some (exit_reason N.guest v (all_pushed v self.old.past))) }
+        ensures appended { in_guest v self.old.past ≡ true
+            → OnOk result (self.new.past ≡ after_exit N.guest v self.old.past) }
+        ensures over { self.new.over ≡ self.old.over }
+        ensures err { OnErr result (self.new ≡ self.old) }
+    {
+        let inside = self.log.in_guest(v);
+        if inside {
+            self.log.is_legal();
+            let events = full_buffer(self.log.guest()) + 1;
+            self.log.reserve(events)?;
+            Ok(Some(leave(&mut self.log, &mut self.seats, rings, &self.slots, v)))
+        } else {
+            Ok(None)
+        }
+    }
+
+    /// Does the step of the migrator that is due: Start, where each vCPU is paced.
+    #[tactic(auto, unfolding(dr_turns::specs::Due::advanced))]
+    pub fn advance(&mut self, now: u64, into: &mut PageBytes) -> Result<Advance, Memory>
+        requires { started self.old.past ≡ false }
+        ensures answer { IfOk result (λ a. a ≡ (advanced N.guest now self.old.past).0) }
+        ensures appended { OnOk result (self.new.past ≡ (advanced N.guest now self.old.past).1) }
+        ensures into { into.new ≡ into.old }
+        ensures over { self.new.over ≡ self.old.over }
+        ensures err { OnErr result (self.new ≡ self.old) }
+    {
+        self.log.is_legal();
+        self.log.reserve(1)?;
+        Ok(begin(&mut self.log, now))
+    }
+
+    /// Ends the run: from now on no vCPU executes.
+    pub fn give_up(&mut self)
+        ensures past { self.new.past ≡ self.old.past }
+        ensures seats { self.new.seats ≡ self.old.seats }
+        ensures over { self.new.over ≡ true }
+    {
+        self.over = true;
+    }
+
+    /// The run was given up.
+    pub fn over(&self) -> bool
+        ensures { result ≡ self.now.over }
+    {
+        self.over
+    }
+
+    /// The guest is stopped, or every vCPU has halted.
+    pub fn all_out(&self) -> bool
+        ensures { result ≡ all_out N.guest self.now.past }
+    {
+        all_out(&self.log)
+    }
+
+    /// Where the run stands.
+    pub fn end(&self) -> RunEnd
+        ensures { result ≡ run_end N.guest self.now.past }
+    {
+        run_end(&self.log)
+    }
+
+    /// The guest that the name fixes.
+    pub fn guest(&self) -> &Guest
+        ensures is { result.now ≡ N.guest }
+        ensures valid { IsValid result.now }
+    {
+        self.log.guest()
+    }
+
+    /// What has happened, which is legal.
+    pub fn history(&self) -> &History
+        ensures past { result.now.past ≡ self.now.past }
+        ensures legal { IsLegal N.guest result.now.past }
+    {
+        self.log.history()
+    }
+
+    /// The bytes of a page.
+    pub fn page(&self, page: u32) -> &[u8]
+        requires { page < page_count N.guest }
+        ensures bytes { result.now ≡ page_bytes N.guest page self.now.past }
+        ensures len { length result.now ≡ 4096 }
+    {
+        self.log.page(page)
+    }
+}

@@ -1,0 +1,81 @@
+ghost use Rattle.std.specs.Prelude.{◌≡◌, ◌<◌, ◌≤◌, ◌+◌, ◌^◌, false, not, Some, None, IfSome, if◌then◌else◌};
+ghost use Rattle.dr_types.specs.Scripts.{vcpu_count};
+ghost use Rattle.dr_history.specs.Entries.{or_else};
+ghost use Rattle.dr_history.specs.Execution.{ops};
+ghost use Rattle.dr_history.specs.Protection.{started};
+ghost use Rattle.dr_history.specs.Vcpus.{paced};
+ghost use Rattle.dr_turns.specs.Between.{AtTurnsEnd};
+ghost use Rattle.dr_turns.specs.Due.{begun};
+ghost use Rattle.dr_turns.specs.Firsts.{first_unpaced};
+
+use dr_history::Event;
+use dr_log::Log;
+use dr_turns::Advance;
+
+/// The number that was found first, or else this one where it passes.
+fn or_first(found: Option<u32>, v: u32, passes: bool) -> Option<u32>
+    ensures { result ≡ or_else found (if passes then Some v else None) }
+{
+    match found {
+        Some(first) => Some(first),
+        None if passes => Some(v),
+        None => None,
+    }
+}
+
+/// A vCPU has executed enough since the first event, or has halted.
+fn is_paced(log: &Log, v: u32) -> bool
+    requires { v < vcpu_count log.now.guest }
+    ensures { result ≡ paced log.now.guest v log.now.past log.now.past }
+{
+    u64::from(log.guest().settings.pace) <= log.ops(v) || log.halted(v)
+}
+
+/// The least vCPU that has executed too few ops since the first event, and hasn't halted.
+#[tactic(auto, unfolding(dr_turns::specs::Firsts::first_unpaced), using(dr_turns::proofs::Found::first_more))]
+fn first_unpaced(log: &Log) -> Option<u32>
+    ensures is { result ≡ first_unpaced log.now.guest log.now.past log.now.past }
+    ensures within { IfSome result (λ v. v < vcpu_count log.now.guest) }
+{
+    let mut found = None;
+    for v in 0..log.vcpus() {
+        let paced = is_paced(log, v);
+        found = or_first(found, v, !paced);
+    }
+    found
+}
+
+/// How many ops a vCPU has executed.
+#[tactic(auto, using(dr_log::proofs::Limits::few_ops))]
+fn ops_done(log: &Log, v: u32) -> u32
+    requires { v < vcpu_count log.now.guest }
+    ensures { result ≡ ops v log.now.past }
+{
+    log.is_legal();
+    log.ops(v) as u32
+}
+
+/// Logging begins, where each vCPU is paced.
+#[tactic(auto, using(dr_turns::proofs::Starting::start_follows))]
+pub fn begin(log: &mut Log, now: u64) -> Advance
+    requires end { AtTurnsEnd log.old.guest log.old.past }
+    requires fresh { started log.old.past ≡ false }
+    requires events { 1 ≤ log.old.room.events }
+    ensures answer { let found = first_unpaced log.old.guest log.old.past log.old.past in
+        result ≡ (begun now log.old.past found).0 }
+    ensures past { let found = first_unpaced log.old.guest log.old.past log.old.past in
+        log.new.past ≡ (begun now log.old.past found).1 }
+    ensures guest { log.new.guest ≡ log.old.guest }
+{
+    match first_unpaced(log) {
+        Some(v) => Advance::NotPaced {
+            v,
+            done: ops_done(log, v),
+        },
+        None => {
+            log.is_legal();
+            log.take(Event::Start { at: now });
+            Advance::Started
+        }
+    }
+}
