@@ -17,19 +17,8 @@ use Rattle.dr_law.specs.Length.{script_length}
 use Rattle.dr_law.proofs.Length.{stays_in_script}
 use Rattle.dr_law.proofs.Limits.{script_in_total}
 
-pub few_ops : (guest : Guest) (v : ℕ) (past : List Event) → IsValid guest → IsLegalSoFar guest past → v < vcpu_count guest → ops v past ≤ 200000
-few_ops guest v past valid legal lt =
-    let own : ops v past ≤ script_length guest v = stays_in_script guest past v legal in
-    let all : script_length guest v ≤ op_count guest.scripts = script_in_total guest.scripts v in
-    let few : op_count guest.scripts ≤ 200000 = valid.ops in
-    omega arith
-
 pub few_pages : (guest : Guest) → IsValid guest → page_count guest < 2 ^ 32
 few_pages guest valid = let few : pages_of_slots guest.slots ≤ 16384 = valid.slots.pages in omega arith
-
--- bytes of an op lie in one page
-pub lies_in_one_page : (guest : Guest) (address bytes : ℕ) → Lies guest.slots address bytes → in_one_page guest address bytes ≡ true
-lies_in_one_page guest address bytes lies = rw lies.mapped (le-leb _ _ lies.in_page)
 
 loaded_is : (guest : Guest) (past : List Event) (at value : ℕ) (place : Option ℕ) → is_some place ≡ true → IfSome place (λ page. value ≡ loaded (page_bytes guest page past) at) → value ≡ loaded_from guest past at place
 loaded_is guest past at value None some is = absurd (false≢true some)

@@ -7,10 +7,11 @@ use Rattle.dr_history.specs.declared.event.Event.TheVariants.{Write, Paint, Open
 use Rattle.dr_memory.specs.Stores.{Store}
 use Rattle.dr_state.specs.declared.ring.Entry.{Entry}
 
--- so many events, so many more entries of each vCPU, and writes to these pages
+-- so many events, so many more entries of each vCPU, resets of so many entries, and writes to these pages
 pub record Room : Type 0 where
   pub events : ℕ
   pub entries : List ℕ
+  pub closing : ℕ
   pub pages : List Bool
 
 -- a vCPU can open one more entry
@@ -21,14 +22,14 @@ HasEntry v room = 1 ≤ slice_index_or room.entries v 0
 abbrev pub has_page : ℕ → Room → Bool
 has_page page room = slice_index_or room.pages page false
 
--- the event takes no more than this room: an Opened an entry of its vCPU, a write its page; a Reset and a Synced take
--- memory of their own
+-- the event takes no more than this room: an Opened an entry of its vCPU, a Reset one that closes a page, a write its
+-- page; the pages of a Synced are handed in with it
 abbrev pub HasRoomFor : Guest → Event → Room → Type 0
 HasRoomFor guest (Opened v k page) room = HasEntry v room
 HasRoomFor guest (Write v i address len value) room =
     IfSome (page_of_address guest address) (λ page. has_page page room ≡ true)
 HasRoomFor guest (Paint v i page byte) room = has_page page room ≡ true
-HasRoomFor guest (Reset v k) room = ⊥
+HasRoomFor guest (Reset v k) room = 1 ≤ room.closing
 HasRoomFor guest (Synced r at pages) room = ⊥
 HasRoomFor guest e room = Unit {0}
 
@@ -36,6 +37,11 @@ HasRoomFor guest e room = Unit {0}
 abbrev pub entry_rooms : List (List Entry × ℕ) → List ℕ
 entry_rooms rows = map (λ row. row.1) rows
 
--- the room of a history, of the entries and of the pages
-abbrev pub room_of : ℕ → List (List Entry × ℕ) → Store → Room
-room_of events rows store = record { events = events; entries = entry_rooms rows; pages = store.rooms }
+-- the room of a history, of the entries, of the closing pages and of memory
+abbrev pub room_of : ℕ → List (List Entry × ℕ) → ℕ → Store → Room
+room_of events rows closing store = record {
+  events = events;
+  entries = entry_rooms rows;
+  closing = closing;
+  pages = store.rooms;
+}

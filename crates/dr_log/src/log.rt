@@ -35,7 +35,7 @@ impl Model for Log {
     ghost view = { λ c. record {
       guest = c.guest;
       past = c.history.past;
-      room = room_of c.history.spare c.replay.entries.rows.items c.replay.memory;
+      room = room_of c.history.spare c.replay.entries.rows.items c.replay.protection.closing.1 c.replay.memory;
     } };
 
     ghost invariant = { λ c. IsValid c.guest × IsReplay c.guest c.history.past c.replay };
@@ -108,6 +108,16 @@ impl Log {
         self.replay.make_entry_room(v)
     }
 
+    /// Room for a page that a reset closes. An `Err` changes neither guest nor history.
+    pub fn make_closing_room(&mut self) -> Result<(), Memory>
+        ensures guest { self.new.guest ≡ self.old.guest }
+        ensures past { self.new.past ≡ self.old.past }
+        ensures events { self.new.room.events ≡ self.old.room.events }
+        ensures ok { OnOk result (1 ≤ self.new.room.closing) }
+    {
+        self.replay.make_closing_room()
+    }
+
     /// Memory of its own for a page. An `Err` changes neither guest nor history.
     pub fn make_page_room(&mut self, page: u32) -> Result<(), Memory>
         requires { page < page_count self.old.guest }
@@ -138,6 +148,24 @@ impl Log {
         self.history.push_kept(e);
     }
 
+    /// Takes an answer that breaks no rule, into the room that was made, with a copy of its pages. It isn't
+    /// judged.
+    #[tactic(auto, using(dr_state::proofs::Valid::can_replay))]
+    pub fn answer(&mut self, r: u32, at: u64, pages: PageList, copy: PageList)
+        requires copy { copy ≡ pages }
+        requires small { All (λ page. page < 2 ^ 32) pages }
+        requires follows { MayFollow self.old.guest self.old.past (Event.Synced r at pages) }
+        requires events { 1 ≤ self.old.room.events }
+        ensures past { self.new.past ≡ Event.Synced r at pages ∷ self.old.past }
+        ensures guest { self.new.guest ≡ self.old.guest }
+        ensures events { self.old.room.events ≤ self.new.room.events + 1 }
+    {
+        let _few = self.history.len();
+        let e = Event::Synced { r, at, pages };
+        self.replay.take(&self.guest, &e, copy);
+        self.history.push_kept(e);
+    }
+
     /// What has happened is legal so far, for a guest within the limits.
     pub fn is_legal(&self)
         ensures legal { IsLegalSoFar self.now.guest self.now.past }
@@ -164,6 +192,17 @@ impl Log {
     {
         self.history.fits_lines();
         &self.history
+    }
+
+    /// The guest and its history.
+    pub fn into_parts(self) -> (Guest, History)
+        ensures guest { result.0 ≡ self.guest }
+        ensures past { result.1.past ≡ self.past }
+        ensures legal { IsLegalSoFar self.guest self.past }
+        ensures valid { IsValid self.guest }
+    {
+        let Log { guest, history, .. } = self;
+        (guest, history)
     }
 
     /// The events that were taken, the oldest first.

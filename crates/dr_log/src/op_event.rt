@@ -12,16 +12,6 @@ use dr_history::Event;
 use dr_slots::page_of_frame;
 use dr_types::{Guest, Op};
 
-/// How many ops a vCPU has executed.
-#[tactic(auto, using(crate::proofs::Limits::few_ops))]
-fn ops_done(log: &Log, v: u32) -> u32
-    requires { v < vcpu_count log.now.guest }
-    ensures { result ≡ ops v log.now.past }
-{
-    log.is_legal();
-    log.ops(v) as u32
-}
-
 /// The page of a frame that an op fills.
 #[tactic(auto, using(crate::proofs::Limits::few_pages))]
 fn filled_page(guest: &Guest, gfn: u64) -> u32
@@ -36,7 +26,7 @@ fn filled_page(guest: &Guest, gfn: u64) -> u32
 }
 
 /// The value that an op loads from an address.
-#[tactic(auto, using(crate::proofs::Limits::lies_in_one_page, crate::proofs::Limits::value_is))]
+#[tactic(auto, using(dr_turns::proofs::Operations::lies_in_one_page, crate::proofs::Limits::value_is))]
 fn value_loaded(log: &Log, addr: u64) -> u64
     requires { IsOpOrHalt log.now.guest.slots (Op.R addr) }
     ensures { result ≡ value_at log.now.guest log.now.past addr }
@@ -46,6 +36,16 @@ fn value_loaded(log: &Log, addr: u64) -> u64
 
 /// What a vCPU's next op becomes.
 impl Log {
+    /// How many ops a vCPU has executed, as the number of its next one.
+    #[tactic(auto, using(dr_turns::proofs::Starting::few_ops))]
+    pub fn next_number(&self, v: u32) -> u32
+        requires { v < vcpu_count self.now.guest }
+        ensures { result ≡ ops v self.now.past }
+    {
+        self.is_legal();
+        self.ops(v) as u32
+    }
+
     /// The event of a vCPU's op, as the next that it executes.
     pub fn op_event(&self, v: u32, op: Op) -> Event
         requires vcpu { v < vcpu_count self.now.guest }
@@ -53,7 +53,7 @@ impl Log {
         ensures is { result ≡ op_event self.now.guest v self.now.past op }
         ensures fits { FitsLine result }
     {
-        let i = ops_done(self, v);
+        let i = self.next_number(v);
         match op {
             Op::W { addr, len, value } => Event::Write {
                 v,

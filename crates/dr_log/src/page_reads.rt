@@ -12,6 +12,7 @@ use crate::answers::{are_dirty, dirty_numbers};
 use crate::log::Log;
 use crate::memory::loaded_at;
 use crate::paces::some_closing;
+use dr_bytes::PageBytes;
 use dr_types::{Memory, PageList};
 use std::alloc::Global;
 
@@ -79,6 +80,14 @@ impl Log {
         ensures { result.now ≡ page_bytes self.now.guest page self.now.past }
     {
         self.replay.page(page)
+    }
+
+    /// Copies the bytes of a page.
+    pub fn copy_page(&self, page: u32, into: &mut PageBytes)
+        requires { page < page_count self.now.guest }
+        ensures { into.new ≡ page_bytes self.now.guest page self.now.past }
+    {
+        self.replay.copy_page(page, into);
     }
 
     /// The eight bytes of a page from a place on, the least first.

@@ -7,10 +7,14 @@ ghost use Rattle.dr_history.specs.Rounds.{asks, unanswered, last_synced, round_c
 ghost use Rattle.dr_history.specs.Throttles.{throttle_due};
 ghost use Rattle.dr_history.specs.Vcpus.{stopped};
 ghost use Rattle.dr_law.specs.Copies.{copies, pages_of};
+ghost use Rattle.dr_turns.specs.Due.{left, round_of};
 ghost use Rattle.dr_log.specs.Answered.{answered_count};
 
 use crate::log::Log;
-use crate::rounds::{answered_count, few_answered, is_next_copy, next_copied, round_copied};
+use crate::rounds::{
+    answered_count, answered_round, few_answered, is_next_copy, next_copied, next_left,
+    round_copied,
+};
 use crate::throttles::throttle_due;
 
 /// What is told of the migrator's rounds.
@@ -91,6 +95,20 @@ impl Log {
         ensures { result ≡ slice_get (pages_of (last_synced self.now.past)) (copies self.now.past) }
     {
         next_copied(&self.guest, &self.replay)
+    }
+
+    /// The page of the open round that is to be copied next.
+    pub fn left(&self) -> Option<u32>
+        ensures { result ≡ left self.now.guest self.now.past }
+    {
+        next_left(&self.guest, &self.replay)
+    }
+
+    /// The number of the last answer; 0 where there is none.
+    pub fn answered_round(&self) -> u32
+        ensures { result ≡ round_of (last_synced self.now.past) }
+    {
+        answered_round(&self.guest, &self.replay)
     }
 
     /// The last answer opened a round, and each page of it is copied since.

@@ -1,4 +1,4 @@
-ghost use Rattle.std.specs.Prelude.{◌≡◌, ◌<◌, ◌==◌, ◌&&◌, nat_le, List, slice_get, length};
+ghost use Rattle.std.specs.Prelude.{◌≡◌, ◌<◌, ◌==◌, ◌&&◌, nat_le, if◌then◌else◌, List, slice_get, length, None};
 ghost use Rattle.dr_history.specs.declared.event.Event.{Event};
 ghost use Rattle.dr_history.specs.Lookback.{since, is_number};
 ghost use Rattle.dr_history.specs.Kinds.{is_synced};
@@ -7,6 +7,7 @@ ghost use Rattle.dr_history.specs.Rules.{asks_in_turn, copies_next, stops_when_f
 ghost use Rattle.dr_law.specs.Copies.{copies, pages_of};
 ghost use Rattle.dr_state.specs.Rounds.{rounds_of};
 ghost use Rattle.dr_state.specs.Whole.{IsReplay};
+ghost use Rattle.dr_turns.specs.Due.{left, round_of};
 ghost use Rattle.dr_log.specs.Answered.{answered_count};
 
 use dr_history::Event;
@@ -65,6 +66,39 @@ pub fn next_copied(guest: &Guest, replay: &Replay) -> Option<u32>
     match &replay.rounds.answer {
         Some(answer) => at(answer.pages.as_slice(), replay.rounds.copies as usize),
         None => None,
+    }
+}
+
+/// The page at a place of an open round.
+fn left_at(answer: &Answer, copies: u64) -> Option<u32>
+    ensures { result ≡ (if answer.now.opens then slice_get answer.now.pages copies else None) }
+{
+    if answer.opens {
+        at(answer.pages.as_slice(), copies as usize)
+    } else {
+        None
+    }
+}
+
+/// The page of the open round that is to be copied next.
+pub fn next_left(guest: &Guest, replay: &Replay) -> Option<u32>
+    ensures { (past : List Event) → IsReplay guest.now past replay.now
+        → result ≡ left guest.now past }
+{
+    match &replay.rounds.answer {
+        Some(answer) => left_at(answer, replay.rounds.copies),
+        None => None,
+    }
+}
+
+/// The number of the last answer.
+pub fn answered_round(guest: &Guest, replay: &Replay) -> u32
+    ensures { (past : List Event) → IsReplay guest.now past replay.now
+        → result ≡ round_of (last_synced past) }
+{
+    match &replay.rounds.answer {
+        Some(answer) => answer.round,
+        None => 0,
     }
 }
 

@@ -93,9 +93,10 @@ begun_case : (guest : Guest) (rings : List TableId) (slots : List SlotRow) (old 
     → new.guest ≡ old.guest → new.past ≡ (begun at old.past found).1 → AreTied guest rings slots new seats × AtTurnsEnd guest new.past
 begun_case guest rings slots old new seats at (Some v) is tied legal end fresh same past = (ties_room guest rings slots old new seats tied same past, rw past end)
 begun_case guest rings slots old new seats at None is tied legal end fresh same past =
-    let ours : IsLegalSoFar guest old.past = subst (λ (g : Guest). IsLegalSoFar g old.past) tied.guest_is legal in
-    (ties_aside guest rings slots old new seats (Start at) tt tied legal (start_follows guest old.past at ours end fresh (sym is)) same past,
-    rw past (start_ends guest old.past at ours end fresh))
+    let ours : IsLegalSoFar guest old.past = subst (λ (g : Guest). IsLegalSoFar g old.past) tied.guest_is legal in (
+      ties_aside guest rings slots old new seats (Start at) tt tied legal (start_follows guest old.past at ours end fresh (sym is)) same past,
+      rw past (start_ends guest old.past at ours end fresh),
+    )
 
 pub ties_begun : (guest : Guest) (rings : List TableId) (slots : List SlotRow) (old new : log.State) (seats : List KernelView) (at : ℕ) → AreTied guest rings slots old seats → IsLegalSoFar old.guest old.past → AtTurnsEnd guest old.past → started old.past ≡ false
     → new.guest ≡ old.guest → new.past ≡ (begun at old.past (first_unpaced guest old.past old.past)).1 → AreTied guest rings slots new seats × AtTurnsEnd guest new.past

@@ -58,7 +58,11 @@ impl<N: Name> Model for Machine<N> {
 
 impl<N: Name> Machine<N> {
     /// A machine of which nothing has happened.
-    pub(crate) fn new(alloc: Global, guest: &Guest, seats: KernelSeats<N>) -> Result<Machine<N>, Memory>
+    pub(crate) fn new(
+        alloc: Global,
+        guest: &Guest,
+        seats: KernelSeats<N>,
+    ) -> Result<Machine<N>, Memory>
         requires guest { guest.now ≡ N.guest }
         requires valid { IsValid guest.now }
         requires rings { AreRingsFor N.guest N.rings }
@@ -108,7 +112,7 @@ impl<N: Name> Machine<N> {
     }
 
     /// Executes an op, which is the vCPU's next.
-        fn execute(&mut self, rings: &Rings<N>, v: u32, op: Op) -> Result<Turn, Memory>
+    fn execute(&mut self, rings: &Rings<N>, v: u32, op: Op) -> Result<Turn, Memory>
         requires vcpu { v < vcpu_count N.guest }
         requires turn { MayTurn N.guest self.old.past v }
         requires op { operation N.guest v (ops v self.old.past) ≡ Some op }

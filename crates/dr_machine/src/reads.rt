@@ -5,7 +5,6 @@ ghost use Rattle.dr_history.specs.Lookback.{below};
 ghost use Rattle.dr_history.specs.Vcpus.{halted};
 ghost use Rattle.dr_turns.specs.Due.{is_spent, run_end};
 ghost use Rattle.dr_turns.specs.Turns.{all_out};
-ghost use Rattle.dr_machine.specs.Idle.{is_idle};
 
 use dr_log::Log;
 use dr_turns::RunEnd;
@@ -31,25 +30,17 @@ pub fn all_out(log: &Log) -> bool
     log.stopped() || halted
 }
 
-/// Nothing is left to ask, to answer or to copy, and the guest runs.
-fn is_idle(log: &Log) -> bool
-    ensures { result ≡ is_idle log.now.guest log.now.past }
-{
-    let answered = log.unanswered().is_none();
-    let copied = log.next_copy().is_none();
-    let switched = log.switched();
-    let stopped = log.stopped();
-    let asked = u64::from(log.guest().settings.rounds) <= log.asks();
-    log.started() && answered && copied && !switched && !stopped && asked
-}
-
 /// All rounds were asked, answered and copied, and the last left too many pages.
-#[tactic(auto, using(crate::proofs::Reading::few_is_unspent, crate::proofs::Reading::spent_is))]
+#[tactic(auto, unfolding(dr_turns::specs::Due::is_spent))]
 fn is_spent(log: &Log) -> bool
     ensures { result ≡ is_spent log.now.guest log.now.past }
 {
-    let idle = is_idle(log);
-    if log.few_answered() { false } else { idle }
+    let answered = log.unanswered().is_none();
+    let copied = log.left().is_none();
+    let runs = !log.switched() && !log.stopped();
+    let many = !log.few_answered();
+    let asked = u64::from(log.guest().settings.rounds) <= log.asks();
+    log.started() && answered && copied && runs && many && asked
 }
 
 /// Where the run stands.

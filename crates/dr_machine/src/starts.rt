@@ -1,7 +1,6 @@
 ghost use Rattle.std.specs.Prelude.{◌≡◌, ◌<◌, ◌≤◌, ◌+◌, ◌^◌, false, not, Some, None, IfSome, if◌then◌else◌};
 ghost use Rattle.dr_types.specs.Scripts.{vcpu_count};
 ghost use Rattle.dr_history.specs.Entries.{or_else};
-ghost use Rattle.dr_history.specs.Execution.{ops};
 ghost use Rattle.dr_history.specs.Protection.{started};
 ghost use Rattle.dr_history.specs.Vcpus.{paced};
 ghost use Rattle.dr_turns.specs.Between.{AtTurnsEnd};
@@ -45,16 +44,6 @@ fn first_unpaced(log: &Log) -> Option<u32>
     found
 }
 
-/// How many ops a vCPU has executed.
-#[tactic(auto, using(dr_log::proofs::Limits::few_ops))]
-fn ops_done(log: &Log, v: u32) -> u32
-    requires { v < vcpu_count log.now.guest }
-    ensures { result ≡ ops v log.now.past }
-{
-    log.is_legal();
-    log.ops(v) as u32
-}
-
 /// Logging begins, where each vCPU is paced.
 #[tactic(auto, using(dr_turns::proofs::Starting::start_follows))]
 pub fn begin(log: &mut Log, now: u64) -> Advance
@@ -70,7 +59,7 @@ pub fn begin(log: &mut Log, now: u64) -> Advance
     match first_unpaced(log) {
         Some(v) => Advance::NotPaced {
             v,
-            done: ops_done(log, v),
+            done: log.next_number(v),
         },
         None => {
             log.is_legal();

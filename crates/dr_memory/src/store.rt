@@ -77,6 +77,14 @@ impl PageStore {
         }
     }
 
+    /// Copies the bytes of a page.
+    pub fn copy_page(&self, page: u32, into: &mut PageBytes)
+        requires { page < length self.now.pages }
+        ensures { into.new ≡ bytes_of page self.now }
+    {
+        into.copy_from(self.bytes(page));
+    }
+
     /// The eight bytes of a page from a place on, the least first. Past its end are zeros.
     pub fn read8(&self, page: u32, at: u32) -> u64
         requires page { page < length self.now.pages }

@@ -35,16 +35,7 @@ use Rattle.dr_may.proofs.Writes.{writes_alone}
 use Rattle.dr_run.specs.Going.{IsSilent, is_unlogged}
 use Rattle.dr_run.specs.Execution.{HasEnded, HasLeft, HaveRun, IsEarly, IsRunning, MayExecute, is_run}
 use Rattle.dr_run.proofs.Calm.{early_rests, early_runs, early_untouched}
-use Rattle.dr_log.proofs.Limits.{lies_in_one_page}
-
-op_in_page : (guest : Guest) (o : Op) → IsOpOrHalt guest.slots o → OpFits guest o
-op_in_page guest (op.W address len value) is = lies_in_one_page guest address len is.4
-op_in_page guest (op.F frame byte) is = is.2
-op_in_page guest (op.R address) is = lies_in_one_page guest address 8 is.1
-op_in_page guest (op.S address) is = lies_in_one_page guest address 8 is.1
-op_in_page guest (op.A n) is = tt
-op_in_page guest (op.Nap us) is = tt
-op_in_page guest op.Halt is = tt
+use Rattle.dr_turns.proofs.Operations.{op_in_page}
 
 frame_page : (guest : Guest) (frame page : ℕ) → page_of_frame guest.slots frame ≡ Some page → page < page_count guest
 frame_page guest frame page is =

@@ -19,6 +19,7 @@ use crate::round_state::Rounds;
 use crate::scripts::Running;
 use crate::shield::Protection;
 use crate::vcpus::Vcpus;
+use dr_bytes::PageBytes;
 use dr_history::Event;
 use dr_memory::PageStore;
 use dr_slots::page_count;
@@ -54,6 +55,16 @@ impl Replay {
         self.memory.page(page)
     }
 
+    /// Copies the bytes of a page.
+    #[tactic(auto, using(crate::proofs::Stored::shows_page))]
+    pub fn copy_page(&self, page: u32, into: &mut PageBytes)
+        requires { page < length self.now.memory.pages }
+        ensures { (guest : Guest) (past : List Event) → IsReplay guest past self.now
+            → into.new ≡ page_bytes guest page past }
+    {
+        self.memory.copy_page(page, into);
+    }
+
     /// The eight bytes of a page from a place on, the least first.
     #[tactic(auto, using(crate::proofs::Stored::shows_word))]
     pub fn load(&self, page: u32, at: u32) -> u64
@@ -87,6 +98,7 @@ impl Replay {
         ensures replay { (guest : Guest) (past : List Event) → IsReplay guest past self.old
             → IsReplay guest past self.new }
         ensures pages { self.new.memory.rooms ≡ self.old.memory.rooms }
+        ensures closing { self.new.protection ≡ self.old.protection }
         ensures ok { OnOk result (HasRoomAt v self.new.entries.rows.items) }
     {
         self.entries.make_room(v)
@@ -96,6 +108,8 @@ impl Replay {
     pub fn make_closing_room(&mut self) -> Result<(), Memory>
         ensures replay { (guest : Guest) (past : List Event) → IsReplay guest past self.old
             → IsReplay guest past self.new }
+        ensures pages { self.new.memory.rooms ≡ self.old.memory.rooms }
+        ensures entries { self.new.entries ≡ self.old.entries }
         ensures ok { OnOk result (1 ≤ self.new.protection.closing.1) }
     {
         self.protection.closing.make_room()
@@ -107,6 +121,7 @@ impl Replay {
         ensures replay { (guest : Guest) (past : List Event) → IsReplay guest past self.old
             → IsReplay guest past self.new }
         ensures entries { self.new.entries ≡ self.old.entries }
+        ensures closing { self.new.protection ≡ self.old.protection }
         ensures ok { OnOk result (has_room page self.new.memory ≡ true) }
     {
         self.memory.make_room(page)

@@ -41,7 +41,8 @@ valid_ends guest valid v i last =
 pub valid_some : (guest : Guest) (v : ℕ) → IsValid guest → v < vcpu_count guest → 0 < script_length guest v
 valid_some guest v valid lt = let some : 1 ≤ script_length guest v = (halts_last guest v valid lt).some in omega (arith, some)
 
-lies_in_one_page : (guest : Guest) (address bytes : ℕ) → Lies guest.slots address bytes → in_one_page guest address bytes ≡ true
+-- bytes that lie in a slot lie in one page
+pub lies_in_one_page : (guest : Guest) (address bytes : ℕ) → Lies guest.slots address bytes → in_one_page guest address bytes ≡ true
 lies_in_one_page guest address bytes lies = rw lies.mapped (le-leb _ _ lies.in_page)
 
 -- an operation of these slots has its bytes in one page

@@ -31,13 +31,14 @@ begun now past (Some v) = (advance.NotPaced v (ops v past), past)
 unfoldable pub some_closing : Guest → List Event → Bool
 some_closing guest past = list_any (λ page. closing page past) (below (page_count guest))
 
--- the first n vCPUs are throttled, where there is a quota and the guest runs
+-- the first n vCPUs are throttled
 abbrev pub throttled_behind : Guest → ℕ → List Event → List Event
 throttled_behind guest zero past = past
 throttled_behind guest (suc n) past =
     let before = throttled_behind guest n past in
     Throttled n (throttle guest n before).us ∷ before
 
+-- the answer, and behind it a throttle for each vCPU where there is a quota and the guest runs
 abbrev pub answered_behind : Guest → ℕ → ℕ → List Event → List Event
 answered_behind guest r now past =
     let answer = Synced r now (dirty_pages guest past) ∷ past in

@@ -18,5 +18,5 @@ returns-clause-ok c =
     let within : c.args.v < new.entries.rows.len =
     entries_within c.self.inside.guest c.self.inside.history.past new c.args.v (c.make_entry_room.ensures.replay c.self.inside.guest c.self.inside.history.past c.self.invariant.1) lt in
     on_ok_weaker c.make_entry_room.result
-    (λ has. row_has_entry c.self.inside.history.spare c.args.v new.entries.rows.items new.memory has (subst (λ n. c.args.v < n) new.entries.rows.ok.0 within))
+    (λ has. row_has_entry c.self.inside.history.spare c.args.v new.protection.closing.1 new.entries.rows.items new.memory has (subst (λ n. c.args.v < n) new.entries.rows.ok.0 within))
     c.make_entry_room.ensures.ok

@@ -15,6 +15,7 @@ take-requires-clause-fits c =
     let rows = c.self.inside.replay.entries.rows.items in
     let store = c.self.inside.replay.memory in
     let kept : broken guest past c.args.e ≡ None = subst (λ (s : State). broken s.guest s.past c.args.e ≡ None) (sym c.self.view_is) c.requires.follows.kept in
-    let room : HasRoomFor guest c.args.e (room_of events rows store) = subst (λ (s : State). HasRoomFor s.guest c.args.e s.room) (sym c.self.view_is) c.requires.room in
+    let closing = c.self.inside.replay.protection.closing.1 in
+    let room : HasRoomFor guest c.args.e (room_of events rows closing store) = subst (λ (s : State). HasRoomFor s.guest c.args.e s.room) (sym c.self.view_is) c.requires.room in
     let few : length past < 2 ^ 63 = subst (λ n. n < 2 ^ 63) c.len-few.ensures.is c.len-few.ensures.few in
-    can_take guest past c.args.e c.self.inside.replay (can_replay guest c.self.invariant.0) c.self.invariant.1 kept few (opening_fits guest c.args.e events rows store room) (closing_fits guest c.args.e events c.self.inside.replay.protection.closing.1 rows store room) (store_fits guest c.args.e events rows store room)
+    can_take guest past c.args.e c.self.inside.replay (can_replay guest c.self.invariant.0) c.self.invariant.1 kept few (opening_fits guest c.args.e events closing rows store room) (closing_fits guest c.args.e events closing rows store room) (store_fits guest c.args.e events closing rows store room)

@@ -34,6 +34,7 @@ invariant_of-self-then-inside g c =
     let past = c.self.inside.log.past in
     let legal : IsLegalSoFar guest past = subst (λ (h : Guest). IsLegalSoFar h past) c.self.invariant.0.guest_is c.is_legal.ensures.legal in
     let inside : in_guest c.args.v past ≡ true = sym c.in_guest-inside.ensures ∙ c.if-inside.true in
-    let rest : AtRest guest past = inside_rests guest past c.args.v c.requires legal c.self.invariant.1 inside in
-    (c.leave.ensures.tied,
-    rw (c.leave.ensures.past, c.in_ok-reserve.ensures.past) (exit_ends guest past c.args.v (exit_reason guest c.args.v (all_pushed c.args.v past)) rest c.self.invariant.1))
+    let rest : AtRest guest past = inside_rests guest past c.args.v c.requires legal c.self.invariant.1 inside in (
+      c.leave.ensures.tied,
+      rw (c.leave.ensures.past, c.in_ok-reserve.ensures.past) (exit_ends guest past c.args.v (exit_reason guest c.args.v (all_pushed c.args.v past)) rest c.self.invariant.1),
+    )
