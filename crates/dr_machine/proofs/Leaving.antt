@@ -1,8 +1,6 @@
 -- A vCPU leaves the guest.
-use Rattle.std.proofs.Common.{◌≡◌, ℕ, ◌<◌, true, List, ◌∷◌, sym, ◌∙◌, subst, ap}
-use Rattle.atomic_table.specs.Seated.{TableId}
+use Rattle.std.proofs.Common.{◌≡◌, ℕ, ◌<◌, true, List, ◌∷◌, ◌∙◌, ap}
 use Rattle.dr_types.specs.declared.guest.Guest.{Guest}
-use Rattle.dr_types.specs.declared.guest.SlotRow.{SlotRow}
 use Rattle.dr_types.specs.declared.guest.Why.{Why}
 use Rattle.dr_types.specs.Scripts.{vcpu_count}
 use Rattle.dr_history.specs.declared.event.Event.{Event}
@@ -10,13 +8,9 @@ use Rattle.dr_history.specs.declared.event.Event.TheVariants.{Exited}
 use Rattle.dr_history.specs.Legality.{IsLegalSoFar}
 use Rattle.dr_history.specs.Vcpus.{in_guest}
 use Rattle.dr_may.specs.May.{MayFollow, AtRest}
-use Rattle.dr_log.specs.State as log
-use Rattle.dr_ring.specs.Seats.{KernelView}
 use Rattle.dr_turns.specs.Buffers.{all_pushed}
 use Rattle.dr_turns.specs.Turns.{exit_reason, after_exit}
 use Rattle.dr_turns.proofs.Leaving.{exit_follows}
-use Rattle.dr_machine.specs.Tied.{AreTied}
-use Rattle.dr_machine.proofs.Machines.{ties_aside}
 
 -- behind its whole buffer it leaves by the rules
 pub leaves_here : (guest : Guest) (past now : List Event) (v : ℕ) (why : Why) → v < vcpu_count guest → IsLegalSoFar guest past → AtRest guest past → in_guest v past ≡ true → now ≡ all_pushed v past → why ≡ exit_reason guest v now → MayFollow guest now (Exited v why)

@@ -1,14 +1,11 @@
 -- What ties a machine's log to its rings, and what each turn leaves of it.
-use Rattle.std.proofs.Common.{◌≡◌, ℕ, ◌+◌, ◌<◌, ◌≤◌, max, false, refl, List, [], ◌∷◌, map, Option, Some, None, sym, ap, ◌∙◌, subst, arith}
+use Rattle.std.proofs.Common.{◌≡◌, ℕ, ◌<◌, max, false, refl, List, [], ◌∷◌, map, Option, Some, None, sym, ap, ◌∙◌, subst}
 use Rattle.atomic_table.specs.Seated.{TableId}
 use Rattle.dr_types.specs.declared.guest.Guest.{Guest}
 use Rattle.dr_types.specs.declared.guest.SlotRow.{SlotRow}
-use Rattle.dr_types.specs.declared.guest.Why.{Why}
-use Rattle.dr_types.specs.Scripts.{operation}
 use Rattle.dr_history.specs.declared.event.Event.{Event}
-use Rattle.dr_history.specs.declared.event.Event.TheVariants.{Start, Read, Write, Paint, Local, Halted, Opened, Filled, Exited}
+use Rattle.dr_history.specs.declared.event.Event.TheVariants.{Start, Read, Write, Paint, Local, Halted, Opened, Filled}
 use Rattle.dr_history.specs.Entries.{opens}
-use Rattle.dr_history.specs.Execution.{ops}
 use Rattle.dr_history.specs.Legality.{IsLegalSoFar}
 use Rattle.dr_history.specs.Protection.{started}
 use Rattle.dr_history.specs.Rules.{vcpu_of_op}
@@ -18,8 +15,7 @@ use Rattle.dr_log.specs.State as log
 use Rattle.dr_ring.specs.Seats.{KernelView, new_kernel}
 use Rattle.dr_seats.specs.Seats.{AreSeats, IsAside}
 use Rattle.dr_seats.proofs.Seating.{begin_seats, seats_stay}
-use Rattle.dr_turns.specs.Between.{AtTurnsEnd, MayTurn}
-use Rattle.dr_turns.specs.Buffers.{all_pushed}
+use Rattle.dr_turns.specs.Between.{AtTurnsEnd}
 use Rattle.dr_turns.specs.Due.{begun}
 use Rattle.dr_turns.specs.Firsts.{first_unpaced}
 use Rattle.dr_turns.specs.Turns.{executed}

@@ -1,7 +1,6 @@
 -- An entry goes into its ring, and its Pushed into the history.
-use Rattle.std.proofs.Common.{◌≡◌, ◌≢◌, ℕ, suc, ◌+◌, ◌^◌, ◌-◌, ◌<◌, List, [], ◌∷◌, ◌++◌, length, Option, Some, None, is_some, sym, ap, ◌∙◌, subst, refl, arith, add-one}
-use Rattle.std.specs.Prelude.{All, IfSome, slice_get}
-use Rattle.std.proofs.lemmas.Bool.{false≢true}
+use Rattle.std.proofs.Common.{◌≡◌, ℕ, ◌+◌, ◌^◌, ◌-◌, ◌<◌, List, [], ◌∷◌, ◌++◌, length, Option, Some, sym, ap, ◌∙◌, subst, arith, add-one}
+use Rattle.std.specs.Prelude.{All, IfSome}
 use Rattle.atomic_table.specs.Seated.{TableId}
 use Rattle.dr_types.specs.declared.guest.Guest.{Guest}
 use Rattle.dr_types.specs.declared.guest.SlotRow.{SlotRow}
@@ -11,7 +10,7 @@ use Rattle.dr_types.specs.Scripts.{vcpu_count}
 use Rattle.dr_types.specs.Validity.{IsValid}
 use Rattle.dr_history.specs.declared.event.Event.{Event}
 use Rattle.dr_history.specs.declared.event.Event.TheVariants.{Pushed}
-use Rattle.dr_history.specs.Entries.{opens, pushes, used, page_of_entry}
+use Rattle.dr_history.specs.Entries.{pushes, used, page_of_entry}
 use Rattle.dr_history.specs.Legality.{IsLegalSoFar}
 use Rattle.dr_law.specs.Room.{unpushed}
 use Rattle.dr_law.proofs.Entered.{page_named}
@@ -25,7 +24,7 @@ use Rattle.dr_seats.proofs.FirstEntries.{entry_of_page, few_pushes}
 use Rattle.dr_seats.proofs.Seating.{seats_push, seat_counts, seat_has_room}
 use Rattle.dr_turns.specs.Buffers.{pushed_behind}
 use Rattle.dr_turns.proofs.Buffers.{own_pushes, next_follows}
-use Rattle.dr_machine.specs.Tied.{AreRingsFor, AreTied}
+use Rattle.dr_machine.specs.Tied.{AreTied}
 
 -- an entry lies where its page lies
 pub is_entry : (guest : Guest) (past : List Event) (v k page : ℕ) (slots : List SlotRow) (e : Entry) → slots ≡ guest.slots → Some page ≡ page_of_entry v k past → Some e ≡ place_of slots page → entry guest v k past ≡ Some e

@@ -1,6 +1,6 @@
 -- The room that an op's event takes is that of its page.
-use Rattle.std.proofs.Common.{◌≡◌, ℕ, Bool, true, List, Option, Some, None, is_some, sym, ap, ◌∙◌, subst}
-use Rattle.std.specs.Prelude.{◌==◌, ◌&&◌, IfSome}
+use Rattle.std.proofs.Common.{◌≡◌, ℕ, true, List, Option, Some, None, is_some, sym, ap, ◌∙◌, subst}
+use Rattle.std.specs.Prelude.{◌==◌, IfSome}
 use Rattle.std.proofs.lemmas.Bool.{and_parts, eqb-true, false≢true}
 use Rattle.dr_types.specs.declared.guest.Guest.{Guest}
 use Rattle.dr_types.specs.declared.guest.Op.{Op}
@@ -14,7 +14,6 @@ use Rattle.dr_history.specs.declared.event.Event.{Event}
 use Rattle.dr_history.specs.declared.event.Event.TheVariants.{Write, Paint}
 use Rattle.dr_history.specs.Execution.{ops}
 use Rattle.dr_history.specs.Lookback.{is_number}
-use Rattle.dr_history.specs.Rules.{in_one_page}
 use Rattle.dr_may.specs.May.{WritesNext}
 use Rattle.dr_may.specs.Operations.{op_event, op_page, OpFits}
 use Rattle.dr_log.specs.Room.{Room, has_page, HasRoomFor}

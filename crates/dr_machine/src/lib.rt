@@ -2,15 +2,18 @@
 //! block of events; none is judged, since each is legal by proof.
 #![tactic(auto)]
 
+mod deposits;
 mod exits;
 mod machine;
 mod ops;
 mod pushes;
 mod reads;
+mod resets;
 mod rig;
 mod starts;
 mod writes;
 
+pub use deposits::DepositFault;
 pub use dr_turns::{Advance, RunEnd, Turn};
 pub use machine::Machine;
-pub use rig::{Rig, new_rig};
+pub use rig::{Rig, new_rig, rings_for};

@@ -1,31 +1,39 @@
-ghost use Rattle.std.specs.Prelude.{◌≡◌, ◌<◌, ◌≤◌, [], true, false, map, length, Ok, Some, None, IfOk, OnOk, OnErr, IfSome};
+ghost use Rattle.std.specs.Prelude.{◌≡◌, ◌<◌, ◌≤◌, ◌+◌, [], ◌∷◌, ℕ, true, false, map, length, nat_lt, slice_get, Ok, Err, Some, None, IfOk, IfErr, OnOk, OnErr, IfSome};
+ghost use Rattle.std.specs.List.{list_any};
 ghost use Rattle.dr_types.specs.Pages.{page_count};
 ghost use Rattle.dr_types.specs.Scripts.{operation, vcpu_count};
 ghost use Rattle.dr_types.specs.Validity.{IsValid};
+ghost use Rattle.dr_history.specs.declared.event.Event.{Event};
+ghost use Rattle.dr_history.specs.Entries.{resets};
 ghost use Rattle.dr_history.specs.Execution.{ops};
 ghost use Rattle.dr_history.specs.Legality.{IsLegal};
 ghost use Rattle.dr_history.specs.Memory.{page_bytes};
 ghost use Rattle.dr_history.specs.Protection.{started};
+ghost use Rattle.dr_history.specs.Rules.{deposits_entry};
 ghost use Rattle.dr_history.specs.Vcpus.{in_guest};
-ghost use Rattle.dr_ring.specs.Seats.{new_kernel};
+ghost use Rattle.dr_ring.specs.Seats.{kernel_note, new_kernel};
+ghost use Rattle.dr_rings.specs.Seated.{HasAt};
 ghost use Rattle.dr_seats.specs.Seats.{AreSeats};
 ghost use Rattle.dr_turns.specs.Between.{AtTurnsEnd, MayTurn};
 ghost use Rattle.dr_turns.specs.Buffers.{all_pushed};
-ghost use Rattle.dr_turns.specs.Due.{advanced, run_end};
+ghost use Rattle.dr_turns.specs.Due.{advanced, run_end, some_closing};
 ghost use Rattle.dr_turns.specs.Turns.{refusal, op_step, after_op, exit_reason, after_exit, all_out};
+ghost use Rattle.dr_reaps.specs.Deposits.{first_twice, next_deposited, HasGap};
 ghost use Rattle.dr_machine.specs.Tied.{AreRingsFor};
 
+use crate::deposits::{DepositFault, deposit_fresh, deposited, first_twice};
 use crate::exits::leave;
 use crate::ops::{full_buffer, make_room, next_op, step_after};
 use crate::pushes::push_where_full;
 use crate::reads::{all_out, run_end};
+use crate::resets::{flush, is_closing, is_next_deposited, reset_next};
 use crate::starts::begin;
 use crate::writes::execute;
 use dr_bytes::PageBytes;
 use dr_history::History;
 use dr_log::Log;
-use dr_ring::Name;
-use dr_rings::{KernelSeats, Rings};
+use dr_ring::{Name, Note};
+use dr_rings::{Batch, KernelSeats, Rings};
 use dr_slots::Slots;
 use dr_turns::{Advance, RunEnd, Turn};
 use dr_types::{Guest, Memory, Op, Why};
@@ -148,6 +156,99 @@ impl<N: Name> Machine<N> {
             Ok(Some(leave(&mut self.log, &mut self.seats, rings, &self.slots, v)))
         } else {
             Ok(None)
+        }
+    }
+
+    /// A copy of what v's kernel seat knows.
+    pub fn note(&mut self, rings: &Rings<N>, v: u32) -> Note
+        requires { v < vcpu_count N.guest }
+        ensures stays { self.new ≡ self.old }
+        ensures note { HasAt self.old.seats v (λ s. result ≡ kernel_note s) }
+        ensures of_kernel { result.by_kernel ≡ true }
+        ensures named { slice_get N.rings v ≡ Some result.ring }
+    {
+        self.seats.note(rings, v)
+    }
+
+    /// Deposits a batch, or hands it back where an entry of it was deposited before or there is no
+    /// memory. Batches of one vCPU may come in any order.
+    pub fn deposit(&mut self, rings: &Rings<N>, batch: Batch<N>) -> Result<(), DepositFault<N>>
+        requires { 0 < length batch.entries }
+        ensures twice { let to = batch.first + length batch.entries in (k : ℕ)
+            → first_twice batch.vcpu batch.first self.old.past to ≡ Some k
+            → result ≡ Err (DepositFault.Twice batch k) }
+        ensures fault { let to = batch.first + length batch.entries in
+            first_twice batch.vcpu batch.first self.old.past to ≡ None
+            → IfErr result (λ fault. fault ≡ DepositFault.Memory batch) }
+        ensures appended { let to = batch.first + length batch.entries in
+            OnOk result (self.new.past ≡ Event.Deposited batch.vcpu batch.first to ∷ self.old.past) }
+        ensures over { self.new.over ≡ self.old.over }
+        ensures err { OnErr result (self.new ≡ self.old) }
+    {
+        let to = batch.first + batch.entries.len() as u64;
+        match first_twice(&self.log, batch.vcpu, batch.first, to) {
+            Some(k) => return Err(DepositFault::Twice { batch, k }),
+            None => {}
+        }
+        match self.log.reserve(1) {
+            Ok(()) => {}
+            Err(_) => return Err(DepositFault::Memory { batch }),
+        }
+        deposit_fresh(&mut self.log, &mut self.seats, rings, &self.slots, batch);
+        Ok(())
+    }
+
+    /// How many of v's entries are deposited, where these are its first; `None` where one isn't and a
+    /// later one is.
+    pub fn deposited(&self, v: u32) -> Option<u64>
+        requires { v < vcpu_count N.guest }
+        ensures some { IfSome result (λ n. (k : ℕ)
+            → list_any (deposits_entry v k) self.now.past ≡ nat_lt k n) }
+        ensures none { result ≡ None → HasGap v self.now.past }
+    {
+        deposited(&self.log, v)
+    }
+
+    /// Resets v's next entry, where that is deposited, and answers how many entries it reset.
+    pub fn reset_turn(&mut self, rings: &Rings<N>, v: u32) -> Result<u32, Memory>
+        requires { v < vcpu_count N.guest }
+        ensures none { next_deposited v self.old.past ≡ false → result ≡ Ok 0 }
+        ensures stays { next_deposited v self.old.past ≡ false → self.new ≡ self.old }
+        ensures one { next_deposited v self.old.past ≡ true → IfOk result (λ n. n ≡ 1) }
+        ensures appended { let reset = Event.Reset v (resets v self.old.past) in
+            next_deposited v self.old.past ≡ true
+            → OnOk result (self.new.past ≡ reset ∷ self.old.past) }
+        ensures over { self.new.over ≡ self.old.over }
+        ensures err { OnErr result (self.new ≡ self.old) }
+    {
+        if is_next_deposited(&self.log, v) {
+            self.log.reserve(1)?;
+            self.log.make_closing_room()?;
+            reset_next(&mut self.log, &mut self.seats, rings, &self.slots, v);
+            Ok(1)
+        } else {
+            Ok(0)
+        }
+    }
+
+    /// Drops all permissions that vCPUs have, where a page was reset since the last flush. Answers
+    /// whether there was one.
+    pub fn flush(&mut self) -> Result<bool, Memory>
+        ensures none { some_closing N.guest self.old.past ≡ false → result ≡ Ok false }
+        ensures stays { some_closing N.guest self.old.past ≡ false → self.new ≡ self.old }
+        ensures done { some_closing N.guest self.old.past ≡ true → IfOk result (λ b. b ≡ true) }
+        ensures appended { some_closing N.guest self.old.past ≡ true
+            → OnOk result (self.new.past ≡ Event.Flushed ∷ self.old.past) }
+        ensures over { self.new.over ≡ self.old.over }
+        ensures err { OnErr result (self.new ≡ self.old) }
+    {
+        if is_closing(&self.log) {
+            self.log.reserve(1)?;
+            self.log.is_legal();
+            flush(&mut self.log);
+            Ok(true)
+        } else {
+            Ok(false)
         }
     }
 

@@ -17,6 +17,16 @@ pub struct Rig<N: Name> {
     pub users: UserSeats<N>,
 }
 
+/// New rings for a guest: one for each vCPU, of the guest's ring size.
+pub fn rings_for(alloc: Global, guest: &Guest) -> Result<RingSet, Memory>
+    requires { IsValid guest.now }
+    ensures one_each { IfOk result (λ set. length set.rings ≡ vcpu_count guest.now) }
+    ensures size { IfOk result (λ set. set.size ≡ guest.now.settings.ring) }
+{
+    let vcpus = guest.scripts.len() as u32;
+    RingSet::new(alloc, vcpus, guest.settings.ring)
+}
+
 /// A machine of which nothing has happened, over new rings. `Err` for want of memory alone.
 pub fn new_rig<N: Name>(alloc: Global, guest: Guest, set: RingSet) -> Result<Rig<N>, Memory>
     requires guest { guest ≡ N.guest }

@@ -1,6 +1,5 @@
-ghost use Rattle.std.specs.Prelude.{◌≡◌, ◌<◌, ◌≤◌, ◌+◌, ◌^◌, false, not, Some, None, IfSome, if◌then◌else◌};
+ghost use Rattle.std.specs.Prelude.{◌≡◌, ◌<◌, ◌≤◌, ◌+◌, ◌^◌, false, Some, None, IfSome};
 ghost use Rattle.dr_types.specs.Scripts.{vcpu_count};
-ghost use Rattle.dr_history.specs.Entries.{or_else};
 ghost use Rattle.dr_history.specs.Protection.{started};
 ghost use Rattle.dr_history.specs.Vcpus.{paced};
 ghost use Rattle.dr_turns.specs.Between.{AtTurnsEnd};
@@ -11,17 +10,6 @@ use dr_history::Event;
 use dr_log::Log;
 use dr_turns::Advance;
 
-/// The number that was found first, or else this one where it passes.
-fn or_first(found: Option<u32>, v: u32, passes: bool) -> Option<u32>
-    ensures { result ≡ or_else found (if passes then Some v else None) }
-{
-    match found {
-        Some(first) => Some(first),
-        None if passes => Some(v),
-        None => None,
-    }
-}
-
 /// A vCPU has executed enough since the first event, or has halted.
 fn is_paced(log: &Log, v: u32) -> bool
     requires { v < vcpu_count log.now.guest }
@@ -31,17 +19,18 @@ fn is_paced(log: &Log, v: u32) -> bool
 }
 
 /// The least vCPU that has executed too few ops since the first event, and hasn't halted.
-#[tactic(auto, unfolding(dr_turns::specs::Firsts::first_unpaced), using(dr_turns::proofs::Found::first_more))]
+#[tactic(auto, using(crate::proofs::Pacing::unpaced_here, crate::proofs::Pacing::none_unpaced, crate::proofs::Pacing::one_more_paced))]
 fn first_unpaced(log: &Log) -> Option<u32>
     ensures is { result ≡ first_unpaced log.now.guest log.now.past log.now.past }
     ensures within { IfSome result (λ v. v < vcpu_count log.now.guest) }
 {
-    let mut found = None;
     for v in 0..log.vcpus() {
         let paced = is_paced(log, v);
-        found = or_first(found, v, !paced);
+        if !paced {
+            return Some(v);
+        }
     }
-    found
+    None
 }
 
 /// Logging begins, where each vCPU is paced.

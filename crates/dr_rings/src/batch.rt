@@ -1,4 +1,4 @@
-ghost use Rattle.std.specs.Prelude.{◌≡◌, [], ◌↔◌, IsTrue, Some, slice_get, false};
+ghost use Rattle.std.specs.Prelude.{◌≡◌, ◌+◌, ◌^◌, ◌<◌, [], ◌↔◌, IsTrue, Some, length, slice_get, false};
 ghost use Rattle.dr_rings.specs.Batches.{StandFrom};
 
 use crate::lists::EntryList;
@@ -17,6 +17,7 @@ pub struct Batch<N: Name> {
     pub ghost of_user: { note.by_kernel ≡ false },
     pub ghost of_ring: { slice_get N.rings vcpu ≡ Some note.ring },
     pub ghost stand: { StandFrom first entries note.entries },
+    pub ghost counted: { first + length entries < 2 ^ 64 },
 }
 
 impl<N: Name> Batch<N> {

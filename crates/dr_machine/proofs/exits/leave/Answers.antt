@@ -1,6 +1,5 @@
 use Rattle.std.proofs.Common.{◌≡◌, subst, sym}
 use Rattle.dr_types.specs.declared.guest.Guest.{Guest}
-use Rattle.dr_types.specs.declared.guest.Why.{Why}
 use Rattle.dr_history.specs.declared.event.Event.TheVariants.{Exited}
 use Rattle.dr_history.specs.Legality.{IsLegalSoFar}
 use Rattle.dr_may.specs.May.{MayFollow}

@@ -1,12 +1,8 @@
 use Rattle.std.proofs.Common.{◌≡◌, ◌<◌, ◌+◌, arith, subst, sym, rules}
-use Rattle.dr_types.specs.declared.guest.Guest.{Guest}
 use Rattle.dr_types.specs.Validity.{IsValid}
-use Rattle.dr_history.specs.declared.event.Event.{Event}
-use Rattle.dr_history.specs.declared.event.Event.TheVariants.{Pushed}
-use Rattle.dr_history.specs.Entries.{opens, pushes, used}
+use Rattle.dr_history.specs.Entries.{opens, pushes}
 use Rattle.dr_history.specs.Legality.{IsLegalSoFar}
 use Rattle.dr_law.specs.Room.{unpushed}
-use Rattle.dr_may.specs.May.{MayFollow}
 use Rattle.dr_turns.specs.Buffers.{pushed_behind}
 use Rattle.dr_turns.proofs.Buffers.{own_pushes, opens_pushed, finds_place}
 use Rattle.dr_machine.proofs.Pushing.{next_may_follow}

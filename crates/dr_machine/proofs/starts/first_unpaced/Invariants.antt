@@ -1,5 +1,5 @@
-use Rattle.std.proofs.Common.{◌≡◌, ◌≤◌, ◌<◌}
-use Rattle.std.specs.Prelude.{not, IfSome}
+use Rattle.std.proofs.Common.{◌≡◌, ◌≤◌}
+use Rattle.std.specs.Prelude.{not, None}
 use Rattle.dr_types.specs.Scripts.{vcpu_count}
 use Rattle.dr_history.specs.Vcpus.{paced}
 use Rattle.dr_turns.specs.Firsts.{first_below}
@@ -7,7 +7,6 @@ use Rattle.dr_machine.proofs.starts.first_unpaced.Given as goal
 
 abbrev pub invariant-loop-v : goal.invariant-loop-v
 invariant-loop-v l = record {
-  found : l.found ≡ first_below (λ v. not (paced l.log.guest v l.log.past l.log.past)) l.v;
-  within : IfSome l.found (λ v. v < vcpu_count l.log.guest);
+  none : first_below (λ u. not (paced l.log.guest u l.log.past l.log.past)) l.v ≡ None;
   most : l.v ≤ vcpu_count l.log.guest;
 }

@@ -2,8 +2,7 @@ use Rattle.std.proofs.Common.{◌≡◌, ◌≤◌, ◌∙◌, max, ap, sym, sub
 use Rattle.dr_types.specs.declared.guest.Guest.{Guest}
 use Rattle.dr_history.specs.declared.event.Event.{Event}
 use Rattle.dr_law.specs.Room.{unpushed}
-use Rattle.dr_turns.specs.Between.{AtTurnsEnd, MayTurn}
-use Rattle.dr_turns.specs.Turns.{executed, after_op}
+use Rattle.dr_turns.specs.Turns.{executed}
 use Rattle.dr_turns.proofs.Ending.{op_ends}
 use Rattle.dr_turns.proofs.Executing.{executed_rests, executed_own}
 use Rattle.dr_machine.specs.States.{State}

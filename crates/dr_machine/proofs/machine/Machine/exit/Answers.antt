@@ -1,11 +1,9 @@
-use Rattle.std.proofs.Common.{◌≡◌, ◌<◌, ◌∙◌, ◌+◌, max, true, ap, sym, subst, List, arith}
+use Rattle.std.proofs.Common.{◌≡◌, ◌<◌, ◌∙◌, max, true, ap, sym, subst, arith}
 use Rattle.dr_types.specs.declared.guest.Guest.{Guest}
-use Rattle.dr_history.specs.declared.event.Event.{Event}
 use Rattle.dr_history.specs.Legality.{IsLegalSoFar}
 use Rattle.dr_history.specs.Vcpus.{in_guest}
 use Rattle.dr_law.specs.Room.{unpushed}
 use Rattle.dr_may.specs.May.{AtRest}
-use Rattle.dr_turns.specs.Between.{AtTurnsEnd}
 use Rattle.dr_turns.specs.Turns.{exit_reason}
 use Rattle.dr_turns.specs.Buffers.{all_pushed}
 use Rattle.dr_turns.proofs.Leaving.{inside_rests, exit_ends}

@@ -1,4 +1,4 @@
-use Rattle.std.proofs.Common.{◌≡◌, [], sym, subst, List}
+use Rattle.std.proofs.Common.{sym, subst, List}
 use Rattle.dr_history.specs.declared.event.Event.{Event}
 use Rattle.dr_turns.specs.Between.{AtTurnsEnd}
 use Rattle.dr_turns.proofs.Starting.{begins_at_end}

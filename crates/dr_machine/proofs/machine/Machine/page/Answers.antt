@@ -1,4 +1,4 @@
-use Rattle.std.proofs.Common.{◌≡◌, ◌∙◌, length, ap, List, ℕ}
+use Rattle.std.proofs.Common.{◌∙◌, length, ap}
 use Rattle.dr_history.proofs.Pages.{whole_page}
 use Rattle.dr_machine.proofs.machine.Machine.page.Goals as goal
 

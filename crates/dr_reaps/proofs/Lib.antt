@@ -1,0 +1,5 @@
+pub mod Firsts
+pub mod Done
+pub mod Depositing
+pub mod Flushing
+pub mod Reach
