@@ -1,0 +1,10 @@
+pub mod Events
+pub mod Pushing
+pub mod Executed
+pub mod Writing
+pub mod Caching
+pub mod Operating
+pub mod Legal
+pub mod Outside
+pub mod Leaving
+pub mod Beginning

@@ -1,0 +1,21 @@
+use Rattle.dr_machine_law.proofs.Leaving.{ExitOf, exit_left, exit_unkicked, exit_pushed, exit_seat, exit_ops, exit_started, exit_bytes}
+use Rattle.dr_machine_law.proofs.exits.exit.Goals as goal
+
+pub returns : goal.returns
+returns g c =
+    let exit : ExitOf g.N.Name.guest c.args.v c.args.machine.now c.exit-why.new.self c.exit-why.result = record {
+      after = c.keeps.ensures.legal;
+      seats = c.keeps.ensures.seats;
+      stays = c.exit-why.ensures.stays;
+      appended = c.exit-why.ensures.appended;
+      err = c.exit-why.ensures.err;
+    } in record {
+      outside = exit.stays;
+      left = exit_left exit;
+      unkicked = exit_unkicked exit;
+      pushed = exit_pushed exit;
+      seat = exit_seat exit;
+      ops = exit_ops exit;
+      started = exit_started exit;
+      bytes = exit_bytes exit;
+    }
