@@ -97,6 +97,7 @@ impl Log {
     }
 
     /// Room for one more entry of a vCPU. An `Err` changes neither guest nor history.
+    #[tactic(auto, using(crate::proofs::Within::entries_within, crate::proofs::Rooms::made_room))]
     pub fn make_entry_room(&mut self, v: u32) -> Result<(), Memory>
         requires { v < vcpu_count self.old.guest }
         ensures guest { self.new.guest ≡ self.old.guest }
