@@ -2,47 +2,80 @@ use crate::guests::{counting_guest, idle_guest, two_page_guest, writing_guest};
 use crate::histories::{owed_write, reads, smallest, stale_cache, throttled};
 use crate::tape::Tape;
 use dr_history::{Event, History};
+use dr_types::Memory;
+use std::alloc::Global;
 use std::test::Fail;
 
 /// A reset before the deposit, a flush, and the verdict: how many events were taken, and the rule.
-const STALE_CACHES: [(bool, bool, (usize, u32)); 3] = [
+const STALE_CACHES: &[(bool, bool, (usize, u32))] = &[
     (false, true, (24, 0)),
     (true, true, (8, 16)),
     (false, false, (15, 20)),
 ];
 
 /// The third throttle in microseconds, and the verdict.
-const THROTTLES: [(u64, (usize, u32)); 2] = [(516, (39, 0)), (517, (28, 22))];
+const THROTTLES: &[(u64, (usize, u32))] = &[(516, (39, 0)), (517, (28, 22))];
 
 /// What the second read gives, and the verdict.
-const READS: [(u64, (usize, u32)); 2] = [
+const READS: &[(u64, (usize, u32))] = &[
     (0x0707_0707_0707_0108, (9, 0)),
     (0x0707_0707_0707_0107, (5, 5)),
 ];
 
+fn stale_cache_judged(
+    alloc: Global,
+    early_reset: bool,
+    with_flush: bool,
+) -> Result<(usize, u32), Memory> {
+    let guest = writing_guest(alloc)?;
+    let mut tape = Tape::new(alloc, &guest)?;
+    stale_cache(&mut tape, early_reset, with_flush);
+    Ok(tape.verdict())
+}
+
+fn owed_write_judged(alloc: Global) -> Result<(usize, u32), Memory> {
+    let guest = writing_guest(alloc)?;
+    let mut tape = Tape::new(alloc, &guest)?;
+    owed_write(&mut tape);
+    Ok(tape.verdict())
+}
+
+fn throttles_judged(alloc: Global, third: u64) -> Result<(usize, u32), Memory> {
+    let guest = two_page_guest(alloc)?;
+    let mut tape = Tape::new(alloc, &guest)?;
+    throttled(&mut tape, third);
+    Ok(tape.verdict())
+}
+
+fn reads_judged(alloc: Global, second: u64) -> Result<(usize, u32), Memory> {
+    let guest = counting_guest(alloc)?;
+    let mut tape = Tape::new(alloc, &guest)?;
+    reads(&mut tape, second);
+    Ok(tape.verdict())
+}
+
+fn smallest_judged(alloc: Global) -> Result<(usize, u32), Memory> {
+    let guest = idle_guest(alloc)?;
+    let mut tape = Tape::new(alloc, &guest)?;
+    smallest(&mut tape);
+    Ok(tape.verdict())
+}
+
 #[test]
 fn stale_caches_are_judged(rt: HostRuntime) -> Result<(), Fail> {
     let alloc = rt.alloc();
-    let guest = writing_guest(alloc)?;
-    for (early_reset, with_flush, wanted) in STALE_CACHES {
-        let mut tape = Tape::new(alloc, &guest)?;
-        stale_cache(&mut tape, early_reset, with_flush)?;
-        assert_eq!(rt; tape.verdict(), wanted);
+    for &(early_reset, with_flush, wanted) in STALE_CACHES {
+        assert_eq!(rt; stale_cache_judged(alloc, early_reset, with_flush)?, wanted);
     }
-    let mut tape = Tape::new(alloc, &guest)?;
-    owed_write(&mut tape)?;
-    assert_eq!(rt; tape.verdict(), (3, 26));
+    assert_eq!(rt; owed_write_judged(alloc)?, (3, 26));
     Ok(())
 }
 
 #[test]
 fn throttles_are_judged(rt: HostRuntime) -> Result<(), Fail> {
     let alloc = rt.alloc();
-    let guest = two_page_guest(alloc)?;
-    for (third, wanted) in THROTTLES {
-        let mut tape = Tape::new(alloc, &guest)?;
-        throttled(&mut tape, third)?;
-        assert_eq!(rt; tape.verdict(), wanted);
+    for &(third, wanted) in THROTTLES {
+        assert_eq!(rt; throttles_judged(alloc, third)?, wanted);
     }
     Ok(())
 }
@@ -50,11 +83,8 @@ fn throttles_are_judged(rt: HostRuntime) -> Result<(), Fail> {
 #[test]
 fn reads_are_judged(rt: HostRuntime) -> Result<(), Fail> {
     let alloc = rt.alloc();
-    let guest = counting_guest(alloc)?;
-    for (second, wanted) in READS {
-        let mut tape = Tape::new(alloc, &guest)?;
-        reads(&mut tape, second)?;
-        assert_eq!(rt; tape.verdict(), wanted);
+    for &(second, wanted) in READS {
+        assert_eq!(rt; reads_judged(alloc, second)?, wanted);
     }
     Ok(())
 }
@@ -62,10 +92,7 @@ fn reads_are_judged(rt: HostRuntime) -> Result<(), Fail> {
 #[test]
 fn smallest_run_is_legal(rt: HostRuntime) -> Result<(), Fail> {
     let alloc = rt.alloc();
-    let guest = idle_guest(alloc)?;
-    let mut tape = Tape::new(alloc, &guest)?;
-    smallest(&mut tape)?;
-    assert_eq!(rt; tape.verdict(), (12, 0));
+    assert_eq!(rt; smallest_judged(alloc)?, (12, 0));
     Ok(())
 }
 
