@@ -1,0 +1,5 @@
+pub mod Seating
+pub mod Filling
+pub mod Gathering
+pub mod Beginning
+pub mod Parts

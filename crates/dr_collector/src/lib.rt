@@ -1,0 +1,8 @@
+//! The user seats of all vCPUs under one name, with what they harvested and no batch has yet.
+#![tactic(auto)]
+
+mod collector;
+mod fill;
+mod pending;
+
+pub use collector::Collector;
