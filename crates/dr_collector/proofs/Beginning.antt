@@ -1,12 +1,11 @@
 -- Seats that harvested nothing, of which nothing is pending.
-use Rattle.std.proofs.Common.{◌≡◌, ℕ, zero, suc, ◌+◌, ◌*◌, ◌<◌, ◌≤◌, List, [], ◌∷◌, ◌++◌, map, length, drop, refl, ap, sym, ◌∙◌, subst, arith, length-append, All, Some, slice_get, ⊎_elim}
+use Rattle.std.proofs.Common.{◌≡◌, ℕ, zero, suc, ◌+◌, List, [], ◌∷◌, ◌++◌, map, length, drop, refl, ap, sym, ◌∙◌, arith, length-append, All, Some, slice_get, ⊎_elim}
 use Rattle.atomic_table.specs.Seated.{TableId}
-use Rattle.dr_types.specs.declared.entry.Entry.{Entry}
 use Rattle.dr_ring.specs.Seats.{UserView}
 use Rattle.dr_ring.proofs.Places.{slice_get-push}
 use Rattle.dr_rings.specs.Seated.{ring_of_user}
-use Rattle.dr_collector.specs.Collected.{Collected, begun}
-use Rattle.dr_collector.specs.Pending.{PendingView, all_collected, IsPending, ArePending}
+use Rattle.dr_collector.specs.Collected.{begun}
+use Rattle.dr_collector.specs.Pending.{PendingView, all_collected, ArePending}
 use Rattle.dr_collector.proofs.Seating.{all_at}
 
 -- so many of which nothing is pending and nothing went out

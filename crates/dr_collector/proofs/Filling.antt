@@ -5,9 +5,9 @@ use Rattle.dr_types.specs.declared.entry.Entry.{Entry}
 use Rattle.dr_ring.specs.Seats.{UserView, user_harvested, user_loaded, LoadsNoDirty}
 use Rattle.dr_rings.specs.Seated.{MovesAt, IsHarvest}
 use Rattle.dr_rings.proofs.Batches.{seat_written}
-use Rattle.dr_collector.specs.Collected.{all_harvested, Harvests, Stops}
+use Rattle.dr_collector.specs.Collected.{all_harvested}
 use Rattle.dr_collector.specs.Pending.{PendingView, Fills}
-use Rattle.dr_collector.proofs.Seating.{is_there, set_same, set_again, get_set, harvested_next, harvested_grows, ring_stays, known_stays}
+use Rattle.dr_collector.proofs.Seating.{is_there, set_same, set_again, harvested_next, harvested_grows, ring_stays, known_stays}
 
 -- the seat at v has harvested the entries that are pending more than before
 pub record IsFilling (size v : ℕ) (before now : List UserView) (old new : PendingView) : Type 0 where

@@ -1,7 +1,7 @@
 -- Seats with what is pending of each.
-use Rattle.std.proofs.Common.{◌≡◌, ◌⊎◌, ℕ, zero, suc, ◌+◌, ◌-◌, ◌*◌, ◌<◌, ◌≤◌, Bool, true, false, List, [], ◌∷◌, ◌++◌, map, length, drop, set, length-set, refl, ap, sym, ◌∙◌, subst, arith, inl, inr, append_assoc, length-append, length-drop, All, Option, Some, None, IfSome, slice_get, option_map, max}
+use Rattle.std.proofs.Common.{◌≡◌, ◌⊎◌, ℕ, zero, suc, ◌+◌, ◌-◌, ◌*◌, ◌<◌, ◌≤◌, Bool, List, [], ◌∷◌, ◌++◌, map, length, drop, set, length-set, refl, ap, sym, ◌∙◌, subst, arith, inl, inr, length-append, length-drop, All, Option, Some, None, IfSome, slice_get, option_map, max}
 use Rattle.std.proofs.lemmas.List.{drop-append-le, drop_all, length-map}
-use Rattle.std.proofs.lemmas.Option.{slice_get-map, slice_get_within}
+use Rattle.std.proofs.lemmas.Option.{slice_get-map}
 use Rattle.std.proofs.lemmas.Bool.{cases_lt}
 use Rattle.atomic_table.specs.Seated.{TableId}
 use Rattle.dr_types.specs.declared.entry.Entry.{Entry}

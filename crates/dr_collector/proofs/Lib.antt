@@ -3,3 +3,4 @@ pub mod Filling
 pub mod Gathering
 pub mod Beginning
 pub mod Parts
+pub mod AllParts

@@ -1,7 +1,6 @@
 -- A harvest of one vCPU: what was pending and what was harvested go out together.
-use Rattle.std.proofs.Common.{◌≡◌, ◌⊎◌, ℕ, ◌+◌, ◌-◌, ◌<◌, ◌≤◌, true, List, length, drop, set, refl, ap, sym, ◌∙◌, subst, arith, inl, inr, length-drop, Option, Some, None, IfSome, slice_get}
+use Rattle.std.proofs.Common.{◌≡◌, ◌⊎◌, ℕ, ◌+◌, ◌-◌, ◌≤◌, true, List, length, drop, set, refl, ap, sym, ◌∙◌, subst, arith, inl, inr, length-drop, Option, Some, None, IfSome, slice_get}
 use mathlib.Core.List.{IsPrefix}
-use Rattle.dr_types.specs.declared.entry.Entry.{Entry}
 use Rattle.dr_ring.specs.Seats.{NoteView, UserView, user_note}
 use Rattle.dr_rings.specs.Seated.{MovesAt}
 use Rattle.dr_rings.specs.Batches.{BatchView}

@@ -93,3 +93,11 @@ learnt_harvested (Some n) s = refl
 pub learnt_ring : (seen : Option NoteView) (s : UserView) → (learnt seen s).ring ≡ s.ring
 learnt_ring None s = refl
 learnt_ring (Some n) s = refl
+
+-- what stands elsewhere than a write stays
+pub get_other : {X : Type 0} (xs : List X) (v w : ℕ) (t : X) → w ≢ v → slice_get (set xs v t) w ≡ slice_get xs w
+get_other [] v w t ne = refl
+get_other (y ∷ ys) zero zero t ne = absurd (ne refl)
+get_other (y ∷ ys) zero (suc w) t ne = refl
+get_other (y ∷ ys) (suc v) zero t ne = refl
+get_other (y ∷ ys) (suc v) (suc w) t ne = get_other ys v w t (λ e. ne (ap suc e))

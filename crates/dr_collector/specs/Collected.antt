@@ -1,10 +1,8 @@
 -- What contracts see of a collector, and what its harvests do to it.
-use Rattle.std.specs.Prelude.{◌≡◌, ℕ, ◌+◌, ◌<◌, ◌≤◌, ◌⊎◌, List, [], ◌∷◌, length, drop, Option, Some, None, IfSome}
+use Rattle.std.specs.Prelude.{◌≡◌, ℕ, List, [], ◌∷◌, Option, Some, None}
 use Rattle.atomic_table.specs.Seated.{TableId}
-use mathlib.Core.List.{IsPrefix}
 use Rattle.dr_types.specs.declared.entry.Entry.{Entry}
-use Rattle.dr_ring.specs.Seats.{NoteView, UserView, user_note, user_learnt, user_harvested, LoadsNoDirty}
-use Rattle.dr_rings.specs.Batches.{BatchView}
+use Rattle.dr_ring.specs.Seats.{NoteView, UserView, user_learnt, user_harvested, LoadsNoDirty}
 
 -- what is collected of one vCPU: its user seat, and how many of the seat's entries went out in batches
 pub record Collected : Type 0 where

@@ -1,16 +1,16 @@
-ghost use Rattle.std.specs.Prelude.{◌≡◌, ◌≤◌, ◌<◌, ◌+◌, ◌⊎◌, [], map, length, drop, slice_get, All, Some, IfSome, IfOk, OnErr, true, is_ok};
+ghost use Rattle.std.specs.Prelude.{◌≡◌, ℕ, ◌≤◌, ◌<◌, ◌+◌, ◌⊎◌, [], map, length, drop, slice_get, All, Some, IfSome, IfOk, OnErr, true, is_ok};
 ghost use mathlib.Core.List.{IsPrefix};
 ghost use Rattle.dr_ring.specs.Seats.{user_note};
-ghost use Rattle.dr_rings.specs.Seated.{HasAt, MovesAt};
+ghost use Rattle.dr_rings.specs.Seated.{IfAt, HasAt, MovesAt};
 ghost use Rattle.dr_collector.specs.Collected.{begun, ring_of, learnt, Harvests, Stops};
-ghost use Rattle.dr_collector.specs.Batched.{IsBatchOf, IsKept, as_batch};
+ghost use Rattle.dr_collector.specs.Batched.{IsBatchOf, IsKept, IsCutOff, as_batch, ring_of_note};
 ghost use Rattle.dr_collector.specs.Pending.{Gathers, HandsOut};
 
 use crate::fill::fill;
 use crate::pending::Pending;
 use dr_ring::{Name, Note};
-use dr_rings::{Batch, Rings, UserSeats};
-use dr_types::Memory;
+use dr_rings::{Batch, BatchList, NoteList, Rings, UserSeats};
+use dr_types::{Listed, Memory};
 use std::alloc::Global;
 use std::marker::{Model, PhantomData};
 
@@ -174,5 +174,31 @@ impl<N: Name> Collector<N> {
             × Harvests rings.now.size (learnt seen c.seat) d.seat)) }
     {
         self.harvest_part(rings, alloc, v, seen)
+    }
+
+    /// One batch of each vCPU, in the order of the vCPUs, each as by `harvest` with its note. After
+    /// an `Err` the batches that were made count as handed out.
+    pub fn harvest_all(
+        &mut self,
+        rings: &Rings<N>,
+        alloc: Global,
+        seen: NoteList,
+    ) -> Result<BatchList<N>, Memory>
+        requires of_rings { map ring_of_note seen ≡ N.rings }
+        requires of_kernel { All (λ n. n.by_kernel ≡ true) seen }
+        ensures count { IfOk result (λ bs. length bs ≡ length N.rings) }
+        ensures each { IfOk result (λ bs. (v : ℕ) → IfAt bs v (λ b. HasAt seen v (λ n.
+            HasAt self.old v (λ c. HasAt self.new v (λ d. IsBatchOf rings.now.size v (Some n) c d
+            (as_batch b.vcpu b.first b.entries b.note)))))) }
+        ensures cut_off { OnErr result (IsCutOff rings.now.size seen self.old self.new) }
+    {
+        let vcpus = self.vcpus();
+        let mut batches = Vec::with_capacity(alloc, vcpus as usize)?;
+        let mut v = 0;
+        for note in seen.into_vec() {
+            batches.push(self.harvest_part(rings, alloc, v, Some(note))?)?;
+            v += 1;
+        }
+        Ok(Listed::from_vec(batches))
     }
 }

@@ -1,5 +1,4 @@
-use Rattle.std.proofs.Common.{◌∙◌, ap, sym, refl, arith}
-use Rattle.dr_ring.specs.Seats.{UserView}
+use Rattle.std.proofs.Common.{ap, sym, arith}
 use Rattle.dr_collector.specs.Collected.{learnt}
 use Rattle.dr_collector.proofs.Seating.{is_there, set_same}
 use Rattle.dr_collector.proofs.collector.learn_seen.Goals as goal

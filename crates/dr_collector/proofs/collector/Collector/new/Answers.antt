@@ -1,5 +1,5 @@
-use Rattle.std.proofs.Common.{◌≡◌, ◌∙◌, refl, arith}
-use Rattle.dr_collector.proofs.Beginning.{none_is_nothing, nothing_more, nothing_pending, nothing_collected}
+use Rattle.std.proofs.Common.{arith}
+use Rattle.dr_collector.proofs.Beginning.{nothing_pending, nothing_collected}
 use Rattle.dr_collector.proofs.collector.Collector.new.Goals as goal
 
 pub invariant_of-result : goal.invariant_of-result

@@ -1,4 +1,3 @@
-use Rattle.std.proofs.Common.{◌≡◌, length}
 use Rattle.dr_collector.proofs.Beginning.{AreNothing}
 use Rattle.dr_collector.proofs.collector.Collector.new.Given as goal
 
