@@ -6,13 +6,13 @@ ghost use Rattle.dr_collector.specs.Collected.{begun, ring_of, learnt, Harvests,
 ghost use Rattle.dr_collector.specs.Batched.{IsBatchOf, IsKept, IsCutOff, as_batch, ring_of_note};
 ghost use Rattle.dr_collector.specs.Pending.{Gathers, HandsOut};
 
-use crate::fill::fill;
 use crate::pending::Pending;
+use crate::steps::{batch_of, fill, learn_seen};
 use dr_ring::{Name, Note};
 use dr_rings::{Batch, BatchList, NoteList, Rings, UserSeats};
 use dr_types::{Listed, Memory};
 use std::alloc::Global;
-use std::marker::{Model, PhantomData};
+use std::marker::Model;
 
 /// The user seats of one name, in the order of the vCPUs, each with the entries that it harvested
 /// and that went out in no batch. Contracts see the seats, and how many entries of each went out.
@@ -32,19 +32,6 @@ impl<N: Name> Model for Collector<N> {
     ghost view = { λ c. all_collected c.users c.pendings.items };
 
     ghost invariant = { λ c. ArePending N.rings c.users c.pendings.items };
-}
-
-/// v's user seat learns the note, where there is one.
-fn learn_seen<N: Name>(users: &mut UserSeats<N>, rings: &Rings<N>, v: u32, seen: Option<Note>)
-    requires vcpu { v < length N.rings }
-    requires of_ring { IfSome seen (λ n. slice_get N.rings v ≡ Some n.ring) }
-    requires of_kernel { IfSome seen (λ n. n.by_kernel ≡ true) }
-    ensures { MovesAt users.old users.new v (λ s t. t ≡ learnt seen s) }
-{
-    let _seats = users.vcpus();
-    if let Some(note) = seen {
-        users.learn(rings, v, note);
-    }
 }
 
 impl<N: Name> Collector<N> {
@@ -104,17 +91,7 @@ impl<N: Name> Collector<N> {
         ensures { MovesAt self.old self.new v
             (λ c d. HandsOut v c d (as_batch result.vcpu result.first result.entries result.note)) }
     {
-        let note = self.users.note(rings, v);
-        let harvested = self.users.harvested(v);
-        let pending = &mut self.pendings[v as usize];
-        let first = pending.handed();
-        Batch {
-            vcpu: v,
-            first,
-            entries: pending.hand_out(alloc, harvested),
-            note,
-            name: PhantomData,
-        }
+        batch_of(&mut self.users, &mut self.pendings[v as usize], rings, alloc, v)
     }
 
     /// A harvest of v with what it makes of v's part, in one piece.

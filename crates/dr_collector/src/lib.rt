@@ -2,7 +2,7 @@
 #![tactic(auto)]
 
 mod collector;
-mod fill;
 mod pending;
+mod steps;
 
 pub use collector::Collector;

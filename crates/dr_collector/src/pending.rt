@@ -1,5 +1,5 @@
 //! What was harvested of one vCPU and went out in no batch.
-ghost use Rattle.std.specs.Prelude.{◌≡◌, ◌≤◌, [], ◌∷◌, ◌++◌, length, OnOk};
+ghost use Rattle.std.specs.Prelude.{◌≡◌, ◌≤◌, ◌<◌, ◌↔◌, [], ◌∷◌, ◌++◌, length, IsTrue, OnOk};
 
 use dr_rings::EntryList;
 use dr_types::{Entry, Listed, Memory};
@@ -48,11 +48,11 @@ impl Pending {
         self.handed
     }
 
-    /// How many entries are pending.
-    pub(crate) fn len(&self) -> usize
-        ensures { result ≡ length self.now.entries }
+    /// Fewer entries are pending than there are places.
+    pub(crate) fn has_place(&self, places: u32) -> bool
+        ensures { IsTrue result ↔ (length self.now.entries < places) }
     {
-        self.entries.len()
+        self.entries.len() < places as usize
     }
 
     /// Room for one more.

@@ -1,7 +1,7 @@
 use Rattle.std.proofs.Common.{ap, sym, arith}
 use Rattle.dr_collector.specs.Collected.{learnt}
 use Rattle.dr_collector.proofs.Seating.{is_there, set_same}
-use Rattle.dr_collector.proofs.collector.learn_seen.Goals as goal
+use Rattle.dr_collector.proofs.steps.learn_seen.Goals as goal
 
 pub returns-in_default : goal.returns-in_default
 returns-in_default g c =

@@ -1,6 +1,6 @@
 use Rattle.std.proofs.Common.{◌-◌, length}
 use Rattle.dr_collector.proofs.Filling.{IsFilling}
-use Rattle.dr_collector.proofs.fill.fill.Given as goal
+use Rattle.dr_collector.proofs.steps.fill.Given as goal
 
 abbrev pub invariant-loop-pending : goal.invariant-loop-pending
 invariant-loop-pending g l = IsFilling l.rings.size l.v l.initial.users l.users l.initial.pending l.pending

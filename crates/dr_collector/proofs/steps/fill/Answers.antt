@@ -1,7 +1,7 @@
 use Rattle.std.proofs.Common.{length, ap, arith}
 use Rattle.std.proofs.lemmas.Result.{err_from_is_err_and}
 use Rattle.dr_collector.proofs.Filling.{filling_begins, filling_stays, filling_more, filling_refused, filling_full, filling_dry}
-use Rattle.dr_collector.proofs.fill.fill.Goals as goal
+use Rattle.dr_collector.proofs.steps.fill.Goals as goal
 
 pub loop-pending-init : goal.loop-pending-init
 loop-pending-init g c = filling_begins _ _ _ _ (omega (arith, c.vcpus-seats.ensures.vcpus, c.vcpus-seats.ensures.named, c.requires.vcpu)) c.requires.most
@@ -22,4 +22,4 @@ loop-pending-preserved g c =
     (omega (arith, ap length c.make_room.ensures.entries)) c.in-Some.ensures c.push_kept.ensures.handed c.push_kept.ensures.entries
 
 pub returns : goal.returns
-returns g c = filling_full _ _ _ _ _ _ c.loop-pending.invariant (omega arith)
+returns g c = filling_full _ _ _ _ _ _ c.loop-pending.invariant (grind arith)
