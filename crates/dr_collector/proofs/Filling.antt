@@ -1,5 +1,5 @@
 -- Harvests into the pending entries, one after the other.
-use Rattle.std.proofs.Common.{◌≡◌, ℕ, ◌<◌, ◌≤◌, ◌+◌, true, false, List, [], ◌∷◌, ◌++◌, length, set, refl, ap, sym, ◌∙◌, subst, arith, append_assoc, length-append, Some, None, slice_get}
+use Rattle.std.proofs.Common.{◌≡◌, ℕ, Bool, ◌<◌, ◌≤◌, ◌+◌, true, false, List, [], ◌∷◌, ◌++◌, length, set, refl, ap, sym, ◌∙◌, subst, arith, append_assoc, length-append, Some, None, slice_get}
 use Rattle.std.proofs.lemmas.List.{append-nil}
 use Rattle.dr_types.specs.declared.entry.Entry.{Entry}
 use Rattle.dr_ring.specs.Seats.{UserView, user_harvested, user_loaded, LoadsNoDirty}
@@ -68,25 +68,20 @@ filling_more size v before now next old mid new e is lt moves handed entries =
     }
 
 -- the filling ends where memory is refused
-pub filling_refused : (size v : ℕ) (before now : List UserView) (old new : PendingView) → IsFilling size v before now old new → MovesAt before now v (λ s t. Fills size old new false s t)
-filling_refused size v before now old new is = (
-  is.seat,
-  all_harvested size is.seat is.more,
-  is.at,
-  is.written,
-  record {
-    handed = is.handed;
-    most = is.most;
-    more = is.more;
-    added = is.added;
-    harvested = harvested_grows size is.seat is.more;
-    ring = ring_stays size is.seat is.more;
-    few = λ no few. absurd cc;
-    known = λ no few. absurd cc;
-    full = λ no full. absurd cc;
-    refused = λ no. (is.more, refl);
-  },
-)
+pub filling_refused : (size v : ℕ) (before now : List UserView) (old mid new : PendingView) (done : Bool) → IsFilling size v before now old mid → new.handed ≡ mid.handed → new.entries ≡ mid.entries → done ≡ false → MovesAt before now v (λ s t. Fills size old new done s t)
+filling_refused size v before now old mid new done begun handed entries refused =
+    let is = filling_stays size v before now old mid new begun handed entries in (is.seat, all_harvested size is.seat is.more, is.at, is.written, record {
+      handed = is.handed;
+      most = is.most;
+      more = is.more;
+      added = is.added;
+      harvested = harvested_grows size is.seat is.more;
+      ring = ring_stays size is.seat is.more;
+      few = λ yes few. absurd (cc (yes, refused));
+      known = λ yes few. absurd (cc (yes, refused));
+      full = λ yes full. absurd (cc (yes, refused));
+      refused = λ no. (is.more, refl);
+    })
 
 -- .. where as many are pending as the ring has places
 pub filling_full : (size v : ℕ) (before now : List UserView) (old new : PendingView) → IsFilling size v before now old new → size ≤ length new.entries → MovesAt before now v (λ s t. Fills size old new true s t)
@@ -110,8 +105,10 @@ filling_full size v before now old new is many = (
 )
 
 -- .. where the next entry isn't dirty
-pub filling_dry : (size v : ℕ) (before now next : List UserView) (old new : PendingView) → IsFilling size v before now old new → length new.entries < size → MovesAt now next v (λ s t. IsHarvest size s t None) → MovesAt before next v (λ s t. Fills size old new true s t)
-filling_dry size v before now next old new is lt moves =
+pub filling_dry : (size v : ℕ) (before now next : List UserView) (old mid new : PendingView) → IsFilling size v before now old mid → new.handed ≡ mid.handed → new.entries ≡ mid.entries → length mid.entries < size → MovesAt now next v (λ s t. IsHarvest size s t None) → MovesAt before next v (λ s t. Fills size old new true s t)
+filling_dry size v before now next old mid new begun handed entries less moves =
+    let is = filling_stays size v before now old mid new begun handed entries in
+    let lt : length new.entries < size = omega (arith, ap length entries) in
     let left : all_harvested size is.seat is.more ≡ moves.0 = seat_left size v before now old new moves.0 is moves.2 in
     let stops = moves.4.none refl in
     let grown : moves.1.harvested ≡ is.seat.harvested ++ is.more =
@@ -135,3 +132,6 @@ filling_dry size v before now next old new is lt moves =
         refused = λ wrong. absurd cc;
       },
     )
+
+-- the steps and the end of a filling
+pub ruleset fill_steps = (filling_begins, filling_stays, filling_more, filling_full)

@@ -27,6 +27,7 @@ pub(crate) fn learn_seen<N: Name>(users: &mut UserSeats<N>, rings: &Rings<N>, v:
 
 /// Harvests v's entries one after the other into its pending ones, until the next is not dirty or
 /// as many are pending as a ring has places. Each finds its room before it is harvested.
+#[tactic(auto, using(crate::proofs::Filling::fill_steps))]
 pub(crate) fn fill<N: Name>(
     users: &mut UserSeats<N>,
     pending: &mut Pending,
