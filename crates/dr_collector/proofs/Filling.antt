@@ -70,18 +70,24 @@ filling_more size v before now next old mid new e is lt moves handed entries =
 -- the filling ends where memory is refused
 pub filling_refused : (size v : ℕ) (before now : List UserView) (old mid new : PendingView) (done : Bool) → IsFilling size v before now old mid → new.handed ≡ mid.handed → new.entries ≡ mid.entries → done ≡ false → MovesAt before now v (λ s t. Fills size old new done s t)
 filling_refused size v before now old mid new done begun handed entries refused =
-    let is = filling_stays size v before now old mid new begun handed entries in (is.seat, all_harvested size is.seat is.more, is.at, is.written, record {
-      handed = is.handed;
-      most = is.most;
-      more = is.more;
-      added = is.added;
-      harvested = harvested_grows size is.seat is.more;
-      ring = ring_stays size is.seat is.more;
-      few = λ yes few. absurd (cc (yes, refused));
-      known = λ yes few. absurd (cc (yes, refused));
-      full = λ yes full. absurd (cc (yes, refused));
-      refused = λ no. (is.more, refl);
-    })
+    let is = filling_stays size v before now old mid new begun handed entries in (
+      is.seat,
+      all_harvested size is.seat is.more,
+      is.at,
+      is.written,
+      record {
+        handed = is.handed;
+        most = is.most;
+        more = is.more;
+        added = is.added;
+        harvested = harvested_grows size is.seat is.more;
+        ring = ring_stays size is.seat is.more;
+        few = λ yes few. absurd (cc (yes, refused));
+        known = λ yes few. absurd (cc (yes, refused));
+        full = λ yes full. absurd (cc (yes, refused));
+        refused = λ no. (is.more, refl);
+      },
+    )
 
 -- .. where as many are pending as the ring has places
 pub filling_full : (size v : ℕ) (before now : List UserView) (old new : PendingView) → IsFilling size v before now old new → size ≤ length new.entries → MovesAt before now v (λ s t. Fills size old new true s t)

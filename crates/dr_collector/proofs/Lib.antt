@@ -4,3 +4,4 @@ pub mod Gathering
 pub mod Beginning
 pub mod Parts
 pub mod AllParts
+pub mod Pushes

@@ -91,7 +91,13 @@ impl<N: Name> Collector<N> {
         ensures { MovesAt self.old self.new v
             (λ c d. HandsOut v c d (as_batch result.vcpu result.first result.entries result.note)) }
     {
-        batch_of(&mut self.users, &mut self.pendings[v as usize], rings, alloc, v)
+        batch_of(
+            &mut self.users,
+            &mut self.pendings[v as usize],
+            rings,
+            alloc,
+            v,
+        )
     }
 
     /// A harvest of v with what it makes of v's part, in one piece.

@@ -4,5 +4,7 @@
 mod collector;
 mod pending;
 mod steps;
+#[cfg(test)]
+mod tests;
 
 pub use collector::Collector;

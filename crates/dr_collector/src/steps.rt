@@ -13,7 +13,12 @@ use std::alloc::Global;
 use std::marker::PhantomData;
 
 /// v's user seat learns the note, where there is one.
-pub(crate) fn learn_seen<N: Name>(users: &mut UserSeats<N>, rings: &Rings<N>, v: u32, seen: Option<Note>)
+pub(crate) fn learn_seen<N: Name>(
+    users: &mut UserSeats<N>,
+    rings: &Rings<N>,
+    v: u32,
+    seen: Option<Note>,
+)
     requires vcpu { v < length N.rings }
     requires of_ring { IfSome seen (λ n. slice_get N.rings v ≡ Some n.ring) }
     requires of_kernel { IfSome seen (λ n. n.by_kernel ≡ true) }
