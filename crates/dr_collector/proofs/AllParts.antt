@@ -5,11 +5,19 @@ use Rattle.std.proofs.lemmas.Option.{slice_get-map, slice_get_within}
 use Rattle.atomic_table.specs.Seated.{TableId}
 use Rattle.dr_ring.specs.Seats.{NoteView}
 use Rattle.dr_ring.proofs.Places.{slice_get-push}
-use Rattle.dr_rings.specs.Seated.{HasAt, MovesAt}
+use Rattle.dr_rings.specs.Seated.{IfAt, HasAt, MovesAt}
 use Rattle.dr_rings.specs.Batches.{BatchView}
 use Rattle.dr_collector.specs.Collected.{Collected}
-use Rattle.dr_collector.specs.Batched.{IsBatchOf, IsKept, AreBatches, IsCutOff, ring_of_note}
+use Rattle.dr_collector.specs.Batched.{IsBatchOf, IsKept, IsCutOff, ring_of_note}
 use Rattle.dr_collector.proofs.Seating.{is_there, get_set, get_other}
+
+-- The batches of the vCPUs below u, in their order, by the note of each and by what is collected before and after. The
+-- vCPUs from u on are as before.
+pub record AreBatches (size u : ℕ) (seen : List NoteView) (old new : List Collected) (batches : List BatchView) : Type 0 where
+  pub count : length batches ≡ u
+  pub within : u ≤ length seen
+  pub each : (v : ℕ) → IfAt batches v (λ b. HasAt seen v (λ n. HasAt old v (λ c. HasAt new v (λ d. IsBatchOf size v (Some n) c d b))))
+  pub rest : (v : ℕ) → u ≤ v → slice_get new v ≡ slice_get old v
 
 -- the first of the notes that are left is that of the next vCPU
 pub note_here : (seen rest : List NoteView) (u : ℕ) (n : NoteView) → n ∷ rest ≡ drop u seen → slice_get seen u ≡ Some n

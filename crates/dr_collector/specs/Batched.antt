@@ -36,14 +36,6 @@ pub record IsKept (size : ℕ) (seen : Option NoteView) (c d : Collected) : Type
   pub kept : IsPrefix c.seat.harvested d.seat.harvested
   pub harvests : Harvests size (learnt seen c.seat) d.seat
 
--- The batches of the vCPUs below u, in their order, by the note of each and by what is collected before and after. The
--- vCPUs from u on are as before.
-pub record AreBatches (size u : ℕ) (seen : List NoteView) (old new : List Collected) (batches : List BatchView) : Type 0 where
-  pub count : length batches ≡ u
-  pub within : u ≤ length seen
-  pub each : (v : ℕ) → IfAt batches v (λ b. HasAt seen v (λ n. HasAt old v (λ c. HasAt new v (λ d. IsBatchOf size v (Some n) c d b))))
-  pub rest : (v : ℕ) → u ≤ v → slice_get new v ≡ slice_get old v
-
 -- What harvests of all vCPUs leave that are refused memory at one of them: before it batches were made, and are lost.
 -- At it nothing went out, and all that was harvested is kept. Behind it nothing was done.
 pub record IsCutOff (size : ℕ) (seen : List NoteView) (old new : List Collected) : Type 0 where

@@ -112,7 +112,8 @@ impl<N: Name> Collector<N> {
         requires of_ring { IfSome seen (λ n. slice_get N.rings v ≡ Some n.ring) }
         requires of_kernel { IfSome seen (λ n. n.by_kernel ≡ true) }
         ensures ok { IfOk result (λ b. MovesAt self.old self.new v
-            (λ c d. IsBatchOf rings.now.size v seen c d (as_batch b.vcpu b.first b.entries b.note))) }
+            (λ c d. IsBatchOf rings.now.size v seen c d
+            (as_batch b.vcpu b.first b.entries b.note))) }
         ensures err { OnErr result (MovesAt self.old self.new v
             (λ c d. IsKept rings.now.size seen c d)) }
     {

@@ -1,5 +1,6 @@
 use Rattle.std.proofs.Common.{◌≡◌, map, drop}
-use Rattle.dr_collector.specs.Batched.{AreBatches, as_batch}
+use Rattle.dr_collector.specs.Batched.{as_batch}
+use Rattle.dr_collector.proofs.AllParts.{AreBatches}
 use Rattle.dr_collector.proofs.collector.Collector.harvest_all.Given as goal
 
 abbrev pub invariant-loop-note : goal.invariant-loop-note
