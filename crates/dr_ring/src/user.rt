@@ -55,6 +55,13 @@ impl UserSeat {
         UserSeat { seat, harvested: 0 }
     }
 
+    /// How many entries the seat has harvested.
+    pub fn harvested(&self) -> u64
+        ensures { result ≡ length self.now.harvested }
+    {
+        self.harvested
+    }
+
     /// Harvests the next entry, if it was pushed. None where the entry word that this call loaded
     /// there was not dirty; never while the seat knows of more pushes than harvests.
     pub fn harvest_next(&mut self, ring: &Ring) -> Option<Entry>

@@ -1,7 +1,7 @@
 ghost use Rattle.std.specs.Prelude.{◌≡◌, ◌<◌, ◌^◌, ◌⊎◌, map, length, slice_get, Some, true, false};
 ghost use mathlib.Core.List.{IsPrefix};
 ghost use Rattle.dr_ring.specs.Seats.{user_note, user_learnt};
-ghost use Rattle.dr_rings.specs.Seated.{HasAt, MovesAt, IsHarvest, ring_of_user};
+ghost use Rattle.dr_rings.specs.Seated.{IfAt, HasAt, MovesAt, IsHarvest, ring_of_user};
 
 use crate::rings::Rings;
 use dr_ring::{Name, Note, UserSeat};
@@ -47,6 +47,21 @@ impl<N: Name> UserSeats<N> {
         ensures named { result ≡ length N.rings }
     {
         self.seats.len() as u32
+    }
+
+    /// Each seat is of its vCPU's ring.
+    pub fn are_named(&self)
+        ensures { map ring_of_user self.now ≡ N.rings }
+    {
+        let _seats = &self.seats;
+    }
+
+    /// How many entries of v are harvested.
+    pub fn harvested(&self, v: u32) -> u64
+        requires { v < length N.rings }
+        ensures { IfAt self.now v (λ s. result ≡ length s.harvested) }
+    {
+        self.seats[v as usize].harvested()
     }
 
     /// Harvests the next entry of v's ring, if it was pushed.
