@@ -110,7 +110,6 @@ last_case false vcpus next h = refl
 throttled_ends : (guest : Guest) (past : List Event) (r now : ℕ) (pages : List ℕ) → AtTurnsEnd guest past → AtTurnsEnd guest (throttled_behind guest (vcpu_count guest) (Synced r now pages ∷ past))
 throttled_ends guest past r now pages end =
     let answer : List Event = Synced r now pages ∷ past in
-    let n : ℕ = vcpu_count guest in
     record {
       rests = rw (
           no_write_owed guest past r now (vcpu_count guest) pages,
