@@ -1,3 +1,4 @@
 pub mod Answering
 pub mod Going
 pub mod Copying
+pub mod Cases
