@@ -112,8 +112,8 @@ throttled_ends guest past r now pages end =
     let answer : List Event = Synced r now pages ∷ past in
     record {
       rests = rw (
-          no_write_owed guest past r now (vcpu_count guest) pages,
-          last_case (nat_le 1 guest.settings.quota && not (stopped (throttled_behind guest (vcpu_count guest) answer))) (vcpu_count guest) (next_throttled (throttled_behind guest (vcpu_count guest) answer)) (next_throttle_behind guest past r now (vcpu_count guest) pages),
+        no_write_owed guest past r now (vcpu_count guest) pages,
+        last_case (nat_le 1 guest.settings.quota && not (stopped (throttled_behind guest (vcpu_count guest) answer))) (vcpu_count guest) (next_throttled (throttled_behind guest (vcpu_count guest) answer)) (next_throttle_behind guest past r now (vcpu_count guest) pages),
       ) refl;
       buffers = λ v. rw (unpushed_behind guest answer (vcpu_count guest) v) (end.buffers v);
     }

@@ -30,7 +30,8 @@ open_place : (opens : Bool) (place : Option ℕ) (page : ℕ) → cond opens pla
 open_place true place page h = (refl, h)
 open_place false place page h = cc
 
-left_place : (guest : Guest) (past : List Event) (o : Option (Event × List Event)) (page : ℕ) → left_of guest past o ≡ Some page → slice_get (pages_of o) (copies past) ≡ Some page
+-- the page that is left is the one of the last answer that has the number of those copied
+pub left_place : (guest : Guest) (past : List Event) (o : Option (Event × List Event)) (page : ℕ) → left_of guest past o ≡ Some page → slice_get (pages_of o) (copies past) ≡ Some page
 left_place guest past None page left = cc
 left_place guest past (Some s) page left = (open_place (opens_round guest s.0 s.1) (slice_get (answered_pages s.0) (copies past)) page left).1
 
