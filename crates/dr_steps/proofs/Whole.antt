@@ -66,9 +66,9 @@ advanced_legal guest now past legal end =
       asks_later = λ on runs many more some paced. legal_on guest past (Asked (asks past + 1)) (ask_later_follows guest past legal end on.begun on.answered on.copied on.here runs many more some paced) legal;
     })
 
--- behind the step nothing is owed, and no buffer is full
-pub advanced_ends : (guest : Guest) (now : ℕ) (past : List Event) → IsValid guest → IsLegalSoFar guest past → AtTurnsEnd guest past → AtTurnsEnd guest (advanced guest now past).1
-advanced_ends guest now past valid legal end =
+-- behind the step nothing is owed, and no buffer is full, whatever guest it is
+pub step_ends : (guest : Guest) (now : ℕ) (past : List Event) → IsLegalSoFar guest past → AtTurnsEnd guest past → AtTurnsEnd guest (advanced guest now past).1
+step_ends guest now past legal end =
     advanced_cases (λ (p : Advance × List Event). AtTurnsEnd guest p.1) guest now past (record {
       waits = λ a is. end;
       starts = λ due. start_ends guest past now legal end due.fresh;
@@ -80,6 +80,10 @@ advanced_ends guest now past valid legal end =
       asks_first = λ on runs none more. ask_ends guest past end on.here;
       asks_later = λ on runs many more some paced. ask_ends guest past end on.here;
     })
+
+-- behind the step of a valid guest nothing is owed, and no buffer is full
+pub advanced_ends : (guest : Guest) (now : ℕ) (past : List Event) → IsValid guest → IsLegalSoFar guest past → AtTurnsEnd guest past → AtTurnsEnd guest (advanced guest now past).1
+advanced_ends guest now past valid legal end = step_ends guest now past legal end
 
 throttles_keep : (P : List Event → Type 0) (guest : Guest) (answer : List Event) (n : ℕ) → P answer → ((e : Event) (xs : List Event) → IsStep e → P xs → P (e ∷ xs)) → P (throttled_behind guest n answer)
 throttles_keep P guest answer zero h on = h

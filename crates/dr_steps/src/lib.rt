@@ -3,7 +3,6 @@
 
 ghost use Rattle.std.specs.Prelude.{◌≡◌, ℕ, true, List, Some};
 ghost use Rattle.dr_types.specs.declared.guest.Guest.{Guest};
-ghost use Rattle.dr_types.specs.Validity.{IsValid};
 ghost use Rattle.dr_history.specs.declared.event.Event.{Event};
 ghost use Rattle.dr_history.specs.Kinds.{is_synced};
 ghost use Rattle.dr_history.specs.Legality.{IsLegalSoFar};
@@ -25,9 +24,8 @@ pub fn step_breaks_no_rule()
 
 /// After a step of the migrator nothing is owed and no buffer is full.
 pub fn step_leaves_turns_end()
-    ensures { (guest : Guest) (now : ℕ) (past : List Event) → IsValid guest
-        → IsLegalSoFar guest past → AtTurnsEnd guest past
-        → AtTurnsEnd guest (advanced guest now past).1 }
+    ensures { (guest : Guest) (now : ℕ) (past : List Event) → IsLegalSoFar guest past
+        → AtTurnsEnd guest past → AtTurnsEnd guest (advanced guest now past).1 }
 {}
 
 /// A step of the migrator opens, pushes, deposits and resets no entry.
