@@ -6,6 +6,8 @@ mod guests;
 #[cfg(test)]
 mod histories;
 #[cfg(test)]
-mod tape;
+mod judge;
+#[cfg(test)]
+mod step;
 #[cfg(test)]
 mod tests;

@@ -1,73 +1,87 @@
 use crate::guests::{counting_guest, idle_guest, two_page_guest, writing_guest};
-use crate::histories::{owed_write, reads, smallest, stale_cache, throttled};
-use crate::tape::Tape;
+use crate::histories::{
+    CACHED, COPIED_STALE, COUNTED, FIRST_READ, FIRST_THROTTLED, LAST_THROTTLED, OWED_WRITE,
+    SECOND_THROTTLED, SENT_AGAIN, SMALLEST, back, flush,
+};
+use crate::judge::{Verdict, judged};
+use crate::step::Step;
 use dr_history::{Event, History};
 use dr_types::Memory;
 use std::alloc::Global;
 use std::test::Fail;
 
-/// A reset before the deposit, a flush, and the verdict: how many events were taken, and the rule.
-const STALE_CACHES: &[(bool, bool, (usize, u32))] = &[
+/// A reset before the deposit, a flush, and the verdict.
+const STALE_CACHES: &[(bool, bool, Verdict)] = &[
     (false, true, (24, 0)),
     (true, true, (8, 16)),
     (false, false, (15, 20)),
 ];
 
 /// The third throttle in microseconds, and the verdict.
-const THROTTLES: &[(u64, (usize, u32))] = &[(516, (39, 0)), (517, (28, 22))];
+const THROTTLES: &[(u64, Verdict)] = &[(516, (39, 0)), (517, (28, 22))];
 
 /// What the second read gives, and the verdict.
-const READS: &[(u64, (usize, u32))] = &[
+const READS: &[(u64, Verdict)] = &[
     (0x0707_0707_0707_0108, (9, 0)),
     (0x0707_0707_0707_0107, (5, 5)),
 ];
 
-fn stale_cache_judged(
-    alloc: Global,
-    early_reset: bool,
-    with_flush: bool,
-) -> Result<(usize, u32), Memory> {
+/// A page is copied while a write to it is still cached: after the flush it is sent again. The
+/// history may reset the entry before it is deposited, or leave out the flush.
+fn stale_cache(alloc: Global, early_reset: bool, with_flush: bool) -> Result<Verdict, Memory> {
     let guest = writing_guest(alloc)?;
-    let mut tape = Tape::new(alloc, &guest)?;
-    stale_cache(&mut tape, early_reset, with_flush);
-    Ok(tape.verdict())
+    judged(
+        alloc,
+        &guest,
+        &[
+            CACHED,
+            back(early_reset),
+            COPIED_STALE,
+            flush(with_flush),
+            SENT_AGAIN,
+        ],
+    )
 }
 
-fn owed_write_judged(alloc: Global) -> Result<(usize, u32), Memory> {
+fn owed_write(alloc: Global) -> Result<Verdict, Memory> {
     let guest = writing_guest(alloc)?;
-    let mut tape = Tape::new(alloc, &guest)?;
-    owed_write(&mut tape);
-    Ok(tape.verdict())
+    judged(alloc, &guest, &[OWED_WRITE])
 }
 
-fn throttles_judged(alloc: Global, third: u64) -> Result<(usize, u32), Memory> {
+/// Each of two pages is written once under a quota, and the third throttle is this long.
+fn throttled(alloc: Global, third: u64) -> Result<Verdict, Memory> {
     let guest = two_page_guest(alloc)?;
-    let mut tape = Tape::new(alloc, &guest)?;
-    throttled(&mut tape, third);
-    Ok(tape.verdict())
+    let throttle = [Step::Throttled { us: third }];
+    judged(
+        alloc,
+        &guest,
+        &[FIRST_THROTTLED, SECOND_THROTTLED, &throttle, LAST_THROTTLED],
+    )
 }
 
-fn reads_judged(alloc: Global, second: u64) -> Result<(usize, u32), Memory> {
+/// A page is filled, written and read twice, and the second read gives this.
+fn reads(alloc: Global, second: u64) -> Result<Verdict, Memory> {
     let guest = counting_guest(alloc)?;
-    let mut tape = Tape::new(alloc, &guest)?;
-    reads(&mut tape, second);
-    Ok(tape.verdict())
+    let read = [Step::Read {
+        i: 5,
+        addr: 8,
+        value: second,
+    }];
+    judged(alloc, &guest, &[FIRST_READ, &read, COUNTED])
 }
 
-fn smallest_judged(alloc: Global) -> Result<(usize, u32), Memory> {
+fn smallest(alloc: Global) -> Result<Verdict, Memory> {
     let guest = idle_guest(alloc)?;
-    let mut tape = Tape::new(alloc, &guest)?;
-    smallest(&mut tape);
-    Ok(tape.verdict())
+    judged(alloc, &guest, &[SMALLEST])
 }
 
 #[test]
 fn stale_caches_are_judged(rt: HostRuntime) -> Result<(), Fail> {
     let alloc = rt.alloc();
     for &(early_reset, with_flush, wanted) in STALE_CACHES {
-        assert_eq!(rt; stale_cache_judged(alloc, early_reset, with_flush)?, wanted);
+        assert_eq!(rt; stale_cache(alloc, early_reset, with_flush)?, wanted);
     }
-    assert_eq!(rt; owed_write_judged(alloc)?, (3, 26));
+    assert_eq!(rt; owed_write(alloc)?, (3, 26));
     Ok(())
 }
 
@@ -75,7 +89,7 @@ fn stale_caches_are_judged(rt: HostRuntime) -> Result<(), Fail> {
 fn throttles_are_judged(rt: HostRuntime) -> Result<(), Fail> {
     let alloc = rt.alloc();
     for &(third, wanted) in THROTTLES {
-        assert_eq!(rt; throttles_judged(alloc, third)?, wanted);
+        assert_eq!(rt; throttled(alloc, third)?, wanted);
     }
     Ok(())
 }
@@ -84,7 +98,7 @@ fn throttles_are_judged(rt: HostRuntime) -> Result<(), Fail> {
 fn reads_are_judged(rt: HostRuntime) -> Result<(), Fail> {
     let alloc = rt.alloc();
     for &(second, wanted) in READS {
-        assert_eq!(rt; reads_judged(alloc, second)?, wanted);
+        assert_eq!(rt; reads(alloc, second)?, wanted);
     }
     Ok(())
 }
@@ -92,7 +106,7 @@ fn reads_are_judged(rt: HostRuntime) -> Result<(), Fail> {
 #[test]
 fn smallest_run_is_legal(rt: HostRuntime) -> Result<(), Fail> {
     let alloc = rt.alloc();
-    assert_eq!(rt; smallest_judged(alloc)?, (12, 0));
+    assert_eq!(rt; smallest(alloc)?, (12, 0));
     Ok(())
 }
 
