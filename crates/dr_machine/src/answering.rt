@@ -96,7 +96,10 @@ pub fn answer(log: &mut Log, alloc: Global, r: u32, now: u64) -> Result<Advance,
     match first_kicked(log) {
         Some(v) => Ok(Advance::NotOut { v }),
         None => match first_unreset(log) {
-            Some(v) => Ok(Advance::NotReset { v, k: log.resets(v) }),
+            Some(v) => Ok(Advance::NotReset {
+                v,
+                k: log.resets(v),
+            }),
             None => answer_flushed(log, alloc, r, now),
         },
     }

@@ -36,12 +36,7 @@ fn copy_or_go_on(log: &mut Log, into: &mut PageBytes) -> Advance
 
 /// The step of the migrator that is due.
 #[tactic(auto, unfolding(dr_turns::specs::Due::advanced), using(crate::proofs::Stepping::no_copy))]
-pub fn step(
-    log: &mut Log,
-    alloc: Global,
-    now: u64,
-    into: &mut PageBytes,
-) -> Result<Advance, Memory>
+pub fn step(log: &mut Log, alloc: Global, now: u64, into: &mut PageBytes) -> Result<Advance, Memory>
     requires end { AtTurnsEnd log.old.guest log.old.past }
     requires events { 1 ≤ log.old.room.events }
     ensures answer { IfOk result (λ a. a ≡ (advanced log.old.guest now log.old.past).0) }

@@ -16,6 +16,7 @@ invariant_of-self-2 g c =
     let past : new.past ≡ (advanced guest c.args.now old.past).1 =
     subst (λ (h : Guest). new.past ≡ (advanced h c.args.now old.past).1) roomy
     (subst (λ (xs : List Event). new.past ≡ (advanced c.reserve.new.self.guest c.args.now xs).1) c.reserve.ensures.past c.in_ok-step.ensures.past) in
-    let legal : IsLegalSoFar guest old.past = subst (λ (h : Guest). IsLegalSoFar h old.past) c.self.invariant.0.guest_is c.is_legal.ensures.legal in
-    (ties_advanced guest g.N.Name.rings c.self.inside.slots old new c.self.inside.seats c.args.now c.self.invariant.0 c.is_legal-2.ensures.legal (c.step.ensures.guest ∙ roomy) past,
-    rw past (step_ends guest c.args.now old.past legal c.self.invariant.1))
+    let legal : IsLegalSoFar guest old.past = subst (λ (h : Guest). IsLegalSoFar h old.past) c.self.invariant.0.guest_is c.is_legal.ensures.legal in (
+      ties_advanced guest g.N.Name.rings c.self.inside.slots old new c.self.inside.seats c.args.now c.self.invariant.0 c.is_legal-2.ensures.legal (c.step.ensures.guest ∙ roomy) past,
+      rw past (step_ends guest c.args.now old.past legal c.self.invariant.1),
+    )
