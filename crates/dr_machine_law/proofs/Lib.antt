@@ -8,3 +8,4 @@ pub mod Legal
 pub mod Outside
 pub mod Leaving
 pub mod Beginning
+pub mod Reaping

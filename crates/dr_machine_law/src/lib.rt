@@ -3,8 +3,10 @@
 
 mod exits;
 mod ops;
+mod reaps;
 mod starts;
 
 pub use exits::exit;
 pub use ops::op;
+pub use reaps::{deposit, flush, reset_turn};
 pub use starts::start;

@@ -1,0 +1,29 @@
+use Rattle.std.proofs.Common.{◌≡◌, ◌<◌, ◌+◌, subst, length, arith, ℕ, List}
+use Rattle.std.proofs.lemmas.Result.{on_ok_weaker}
+use Rattle.dr_history.specs.declared.event.Event.{Event}
+use Rattle.dr_history.specs.Entries.{pushes}
+use Rattle.dr_history.specs.Legality.{IsLegalSoFar}
+use Rattle.dr_seats.specs.Seats.{AreSeats}
+use Rattle.dr_machine_law.proofs.Reaping.{batch_is_pushed, batch_is_known}
+use Rattle.dr_machine_law.proofs.reaps.deposit.Goals as goal
+
+more : (first n : ℕ) → 0 < n → first < first + n
+more first n h = omega (arith, h)
+
+pub returns-clause-pushed : goal.returns-clause-pushed
+returns-clause-pushed g c =
+    let b = c.args.batch in
+    let old = c.args.machine.now.past in
+    let to = b.first + length b.entries in
+    on_ok_weaker c.deposit-answer.result
+    (λ is. rw is (batch_is_pushed g.N.Name.guest old b.vcpu b.first to (more b.first (length b.entries) c.requires) (subst (λ (xs : List Event). IsLegalSoFar g.N.Name.guest xs) is c.keeps.ensures.legal.0)))
+    c.deposit-answer.ensures.appended
+
+pub returns-clause-known : goal.returns-clause-known
+returns-clause-known g c =
+    let b = c.args.batch in
+    let old = c.args.machine.now.past in
+    let to = b.first + length b.entries in
+    on_ok_weaker c.deposit-answer.result
+    (λ is. batch_is_known g.N.Name.guest old c.deposit-answer.new.self.seats b.vcpu b.first to (more b.first (length b.entries) c.requires) (subst (λ (xs : List Event). AreSeats g.N.Name.guest xs c.deposit-answer.new.self.seats) is c.keeps.ensures.seats))
+    c.deposit-answer.ensures.appended
