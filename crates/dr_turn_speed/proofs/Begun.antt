@@ -16,7 +16,7 @@ use Rattle.dr_turn_speed.specs.Counts.{counts_of, AreOfLegal}
 pub none_harvested : (rings : List TableId) (users : List UserView) → users ≡ map new_user rings → All (λ s. s.harvested ≡ []) users
 none_harvested rings users are =
     subst (λ (xs : List UserView). All (λ s. s.harvested ≡ []) xs) (sym are)
-        (All-map (λ (s : UserView). s.harvested ≡ []) new_user rings (λ k d less. refl))
+    (All-map (λ (s : UserView). s.harvested ≡ []) new_user rings (λ k d less. refl))
 
 -- the counts of a legal history are some of the guest's
 pub are_of_legal : (guest : Guest) (past : List Event) (result : Result Counts RunFault) → IsLegal guest past

@@ -136,7 +136,8 @@ fn reap<N: Name>(alloc: Global, driver: &mut Driver<N>, v: u32) -> Result<(), Ru
     Ok(())
 }
 
-/// A vCPU's turns; where it has to leave the guest it does, and where its ring is full that is reaped.
+/// A vCPU's turns. Where it has to leave the guest it does, and where its ring is full that is
+/// reaped.
 fn turns<N: Name>(alloc: Global, driver: &mut Driver<N>, v: u32) -> Result<(), RunFault>
     requires { v < vcpu_count N.guest }
 {
@@ -167,7 +168,8 @@ fn reap_all<N: Name>(alloc: Global, driver: &mut Driver<N>) -> Result<(), RunFau
     Ok(())
 }
 
-/// Rounds of turns until each vCPU has halted. In each of two rounds a vCPU executes.
+/// Rounds of turns until each vCPU has halted. Of two rounds in a row a vCPU that hasn't halted
+/// executes in one at least.
 fn run_out<N: Name>(alloc: Global, driver: &mut Driver<N>) -> Result<(), RunFault> {
     for _ in 0..2 * MOST_OPS {
         if driver.machine.all_out() {
