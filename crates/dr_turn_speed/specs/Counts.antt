@@ -1,6 +1,7 @@
 -- How many events of each kind a history has.
-use Rattle.std.specs.Prelude.{◌≡◌, ℕ, ◌+◌, ◌^◌, ◌<◌, Bool, true, false, if◌then◌else◌, List, [], ◌∷◌, length}
+use Rattle.std.specs.Prelude.{◌≡◌, ℕ, ◌+◌, ◌^◌, ◌<◌, Bool, true, false, if◌then◌else◌, List, [], ◌∷◌, length, Ok}
 use Rattle.dr_types.specs.declared.guest.Guest.{Guest}
+use Rattle.dr_guestfile.specs.GuestTexts.{guest_of}
 use Rattle.dr_history.specs.declared.event.Event.{Event}
 use Rattle.dr_history.specs.declared.event.Event.TheVariants.{Read, Write, Paint, Local, Halted, Opened, Filled, Pushed, Reset, Exited}
 use Rattle.dr_history.specs.Kinds.{is_flushed}
@@ -83,3 +84,9 @@ pub record AreOfLegal (guest : Guest) (c : Counts) : Type 0 where
   pub past : List Event
   pub legal : IsLegal guest past
   pub are : c ≡ counts_of past
+
+-- the text says a guest, and the counts are those of a legal history of it
+pub record AreOfText (text : List ℕ) (c : Counts) : Type 0 where
+  pub guest : Guest
+  pub said : guest_of text ≡ Ok guest
+  pub legal : AreOfLegal guest c

@@ -1,10 +1,10 @@
 //! From a guest file to the counts of its run.
 
-ghost use Rattle.std.specs.Prelude.{◌≡◌, [], map, length, IfOk};
+ghost use Rattle.std.specs.Prelude.{◌≡◌, ℕ, List, [], map, length, Some, IfOk};
 ghost use Rattle.dr_types.specs.Scripts.{vcpu_count};
 ghost use Rattle.dr_types.specs.Validity.{IsValid};
 ghost use Rattle.dr_ring.specs.Seats.{new_user};
-ghost use Rattle.dr_turn_speed.specs.Counts.{AreOfLegal};
+ghost use Rattle.dr_turn_speed.specs.Counts.{AreOfLegal, AreOfText};
 
 use crate::counts::Counts;
 use crate::driver::{Driver, drive};
@@ -96,7 +96,10 @@ fn run(alloc: Global, guest: Guest) -> Result<Counts, RunFault>
 }
 
 /// The counts of the run of the guest that a text says.
-fn run_text(alloc: Global, text: &[u8]) -> Result<Counts, RunFault> {
+#[tactic(auto, using(crate::proofs::Begun::are_of_text))]
+fn run_text(alloc: Global, text: &[u8]) -> Result<Counts, RunFault>
+    ensures { IfOk result (AreOfText text.now) }
+{
     match read_guest(alloc, text) {
         Ok(guest) => run(alloc, guest),
         Err(why) => Err(RunFault::Guest { why }),
@@ -104,7 +107,9 @@ fn run_text(alloc: Global, text: &[u8]) -> Result<Counts, RunFault> {
 }
 
 /// The counts of the run of the guest file that a source has.
-pub fn counts_in<S: Source>(alloc: Global, source: &mut S) -> Result<Counts, RunFault> {
+pub fn counts_in<S: Source>(alloc: Global, source: &mut S) -> Result<Counts, RunFault>
+    ensures { (told : List ℕ) → S.left source.old ≡ Some told → IfOk result (AreOfText told) }
+{
     match read_all(alloc, source, MOST_GUEST_BYTES) {
         Ok(text) => run_text(alloc, text.as_slice()),
         Err(ReadFault::TooLong) => Err(RunFault::TooLong),
