@@ -1,5 +1,5 @@
 -- What a new driver begins with, and what its run ends with.
-use Rattle.std.proofs.Common.{◌≡◌, ℕ, List, [], map, length, refl, sym, subst, All}
+use Rattle.std.proofs.Common.{◌≡◌, ℕ, List, [], map, refl, sym, subst, All}
 use Rattle.std.specs.Prelude.{Result, Ok, IfOk}
 use Rattle.std.proofs.lemmas.List.Elements.{All-map}
 use Rattle.std.proofs.lemmas.Result.{IfOk-weaker}

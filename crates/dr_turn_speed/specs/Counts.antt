@@ -1,5 +1,5 @@
 -- How many events of each kind a history has.
-use Rattle.std.specs.Prelude.{◌≡◌, ℕ, ◌+◌, ◌^◌, ◌<◌, Bool, true, false, if◌then◌else◌, List, [], ◌∷◌, length, Ok}
+use Rattle.std.specs.Prelude.{◌≡◌, ℕ, ◌+◌, ◌^◌, ◌<◌, Bool, true, false, if◌then◌else◌, List, length, Ok}
 use Rattle.dr_types.specs.declared.guest.Guest.{Guest}
 use Rattle.dr_guestfile.specs.GuestTexts.{guest_of}
 use Rattle.dr_history.specs.declared.event.Event.{Event}
