@@ -58,7 +58,7 @@ pub fn harvest<N: Name>(
 }
 
 /// The batch is deposited.
-fn takes<N: Name>(machine: &mut Machine<N>, rings: &Rings<N>, batch: Batch<N>) -> bool {
+pub fn takes<N: Name>(machine: &mut Machine<N>, rings: &Rings<N>, batch: Batch<N>) -> bool {
     if batch.is_empty() {
         return false;
     }

@@ -24,6 +24,7 @@ pub enum Row {
     Threads,
 }
 
+/// A row that needs a collector, and a list for the batches.
 fn with_batches<N: Name, R: Threads>(
     rt: &R,
     alloc: Global,
@@ -47,6 +48,7 @@ fn with_batches<N: Name, R: Threads>(
     }
 }
 
+/// A row with a collector of the rig's user seats.
 fn with_collector<N: Name, R: Threads>(
     rt: &R,
     alloc: Global,
@@ -79,6 +81,7 @@ fn with_collector<N: Name, R: Threads>(
     }
 }
 
+/// A row with the rig's user seats alone.
 fn with_users<N: Name>(alloc: Global, rig: Rig<N>) -> Result<bool, Memory>
     requires fresh { started rig.machine.past ≡ false }
     requires new { rig.users ≡ map new_user N.rings }

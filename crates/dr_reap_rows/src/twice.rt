@@ -4,6 +4,7 @@ ghost use Rattle.dr_history.specs.Protection.{started};
 ghost use Rattle.dr_ring.specs.Seats.{new_user};
 ghost use Rattle.dr_rings.specs.Seated.{IfAt};
 
+use crate::reaps::takes;
 use crate::start::{all_plain, starts};
 use dr_machine::{DepositFault, Machine};
 use dr_ring::Name;
@@ -73,17 +74,6 @@ fn batch_of_all<N: Name>(
         entries,
         note,
         name: PhantomData,
-    }
-}
-
-/// The batch is deposited.
-fn takes<N: Name>(machine: &mut Machine<N>, rings: &Rings<N>, batch: Batch<N>) -> bool {
-    if batch.is_empty() {
-        return false;
-    }
-    match machine.deposit(rings, batch) {
-        Ok(()) => true,
-        Err(_) => false,
     }
 }
 
