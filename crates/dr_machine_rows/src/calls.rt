@@ -112,9 +112,9 @@ fn all_answer<N: Name>(rig: &mut Rig<N>, calls: &[Call]) -> Result<bool, Memory>
 }
 
 /// The events end with these lines.
-fn ends_with<N: Name>(alloc: Global, rig: &Rig<N>, lines: &str) -> Result<bool, Memory> {
+fn ends_with<N: Name>(alloc: Global, rig: &Rig<N>, lines: &[u8]) -> Result<bool, Memory> {
     let text = rig.machine.history().text(alloc)?;
-    Ok(text.as_str().ends_with(lines))
+    Ok(text.as_bytes().ends_with(lines))
 }
 
 fn run<N: Name>(
@@ -122,7 +122,7 @@ fn run<N: Name>(
     rig: &mut Rig<N>,
     early: u32,
     calls: &[Call],
-    lines: &str,
+    lines: &[u8],
 ) -> Result<bool, Memory>
     requires { started rig.old.machine.past ≡ false }
 {
@@ -144,7 +144,7 @@ pub fn answer_so<N: Name>(
     set: RingSet,
     early: u32,
     calls: &[Call],
-    lines: &str,
+    lines: &[u8],
 ) -> Result<bool, Memory>
     requires guest { guest ≡ N.guest }
     requires valid { IsValid guest }

@@ -54,8 +54,8 @@ w 0 02
 halt
 ";
 
-/// Two vCPUs that write one page.
-const TWO_VCPUS: &str = "dirtyguest 1
+/// A guest with a buffer of two entries.
+const TWO_ENTRIES: &str = "dirtyguest 1
 ring 8
 reserve 2
 buffer 2
@@ -70,8 +70,6 @@ w 4096 07
 w 0 08
 nap 3
 halt
-vcpu
-halt
 ";
 
 /// The calls answer as they should on the guest of a text.
@@ -85,7 +83,7 @@ fn holds(
     match read_guest(alloc, text.as_bytes()) {
         Ok(guest) => {
             let set = rings_for(alloc, &guest)?;
-            answer_so::<Brand>(alloc, guest, set, early, calls, lines)
+            answer_so::<Brand>(alloc, guest, set, early, calls, lines.as_bytes())
         }
         Err(_) => Ok(false),
     }
@@ -145,6 +143,6 @@ fn a_vcpu_leaves_behind_its_buffer(rt: HostRuntime) -> Result<(), Fail> {
         Call::Op(0, Turn::Over),
     ];
     let lines = "o 0 0 1\nw 0 1 4096 07\np 0 0\nx 0 yield\no 0 1 0\nw 0 2 0 08\nl 0 3\n";
-    assert!(rt; holds(rt.alloc(), TWO_VCPUS, 1, CALLS, lines)?);
+    assert!(rt; holds(rt.alloc(), TWO_ENTRIES, 1, CALLS, lines)?);
     Ok(())
 }
