@@ -1,0 +1,6 @@
+//! The bench: a machine, and the sender that puts each record of its stream in the same turn.
+#![tactic(auto)]
+
+mod bench;
+
+pub use bench::Bench;
