@@ -1,3 +1,5 @@
 pub mod Quiet
 pub mod Keeping
 pub mod Counting
+pub mod Ranges
+pub mod Resetting

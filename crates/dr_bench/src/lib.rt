@@ -2,5 +2,9 @@
 #![tactic(auto)]
 
 mod bench;
+mod deposits;
+mod resets;
+mod settling;
 
 pub use bench::Bench;
+pub use settling::settle;
