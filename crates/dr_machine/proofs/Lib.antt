@@ -3,6 +3,7 @@ pub mod Rooms
 pub mod Pushing
 pub mod Machines
 pub mod Leaving
-pub mod Pacing
+pub mod Least
 pub mod Depositing
+pub mod Stepping
 pub mod Reading

@@ -1,13 +1,12 @@
 -- What ties a machine's log to its rings, and what each turn leaves of it.
-use Rattle.std.proofs.Common.{◌≡◌, ℕ, ◌<◌, max, false, refl, List, [], ◌∷◌, map, Option, Some, None, sym, ap, ◌∙◌, subst}
+use Rattle.std.proofs.Common.{◌≡◌, ℕ, ◌<◌, max, List, [], ◌∷◌, map, Some, sym, ap, ◌∙◌, subst}
 use Rattle.atomic_table.specs.Seated.{TableId}
 use Rattle.dr_types.specs.declared.guest.Guest.{Guest}
 use Rattle.dr_types.specs.declared.guest.SlotRow.{SlotRow}
 use Rattle.dr_history.specs.declared.event.Event.{Event}
-use Rattle.dr_history.specs.declared.event.Event.TheVariants.{Start, Read, Write, Paint, Local, Halted, Opened, Filled}
+use Rattle.dr_history.specs.declared.event.Event.TheVariants.{Read, Write, Paint, Local, Halted, Opened, Filled}
 use Rattle.dr_history.specs.Entries.{opens}
 use Rattle.dr_history.specs.Legality.{IsLegalSoFar}
-use Rattle.dr_history.specs.Protection.{started}
 use Rattle.dr_history.specs.Rules.{vcpu_of_op}
 use Rattle.dr_law.specs.Room.{unpushed}
 use Rattle.dr_may.specs.May.{MayFollow}
@@ -16,11 +15,8 @@ use Rattle.dr_ring.specs.Seats.{KernelView, new_kernel}
 use Rattle.dr_seats.specs.Seats.{AreSeats, IsAside}
 use Rattle.dr_seats.proofs.Seating.{begin_seats, seats_stay}
 use Rattle.dr_turns.specs.Between.{AtTurnsEnd}
-use Rattle.dr_turns.specs.Due.{begun}
-use Rattle.dr_turns.specs.Firsts.{first_unpaced}
 use Rattle.dr_turns.specs.Turns.{executed}
 use Rattle.dr_turns.proofs.Executing.{by_executed}
-use Rattle.dr_turns.proofs.Starting.{start_ends, start_follows}
 use Rattle.dr_machine.specs.Tied.{AreRingsFor, AreTied}
 
 -- a new log and new seats
@@ -58,7 +54,8 @@ op_aside (Local w i) v is = tt
 op_aside (Halted w i) v is = tt
 op_aside e v is = cc
 
-seats_behind : (guest : Guest) (past : List Event) (e : Event) (seats : List KernelView) → IsAside e → IsLegalSoFar guest (e ∷ past) → AreSeats guest past seats → AreSeats guest (e ∷ past) seats
+-- an event aside leaves the seats
+pub seats_behind : (guest : Guest) (past : List Event) (e : Event) (seats : List KernelView) → IsAside e → IsLegalSoFar guest (e ∷ past) → AreSeats guest past seats → AreSeats guest (e ∷ past) seats
 seats_behind guest past e seats aside legal are = seats_stay guest past e seats legal.1 (record { kept = legal.0 }) aside are
 
 seats_executed : (guest : Guest) (past : List Event) (v : ℕ) (seats : List KernelView) → AreSeats guest past seats → IsLegalSoFar guest (executed guest v past) → AreSeats guest (executed guest v past) seats
@@ -83,17 +80,3 @@ ties_executed guest rings slots old new seats v tied legal same past = record {
 -- a buffer has no more entries than it takes, between turns
 pub few_unpushed : (guest : Guest) (past : List Event) (v : ℕ) → AtTurnsEnd guest past → unpushed v past < max 1 guest.settings.buffer
 few_unpushed guest past v end = end.buffers v
-
--- where logging begins, or a vCPU isn't paced
-begun_case : (guest : Guest) (rings : List TableId) (slots : List SlotRow) (old new : log.State) (seats : List KernelView) (at : ℕ) (found : Option ℕ) → found ≡ first_unpaced guest old.past old.past → AreTied guest rings slots old seats → IsLegalSoFar old.guest old.past → AtTurnsEnd guest old.past → started old.past ≡ false
-    → new.guest ≡ old.guest → new.past ≡ (begun at old.past found).1 → AreTied guest rings slots new seats × AtTurnsEnd guest new.past
-begun_case guest rings slots old new seats at (Some v) is tied legal end fresh same past = (ties_room guest rings slots old new seats tied same past, rw past end)
-begun_case guest rings slots old new seats at None is tied legal end fresh same past =
-    let ours : IsLegalSoFar guest old.past = subst (λ (g : Guest). IsLegalSoFar g old.past) tied.guest_is legal in (
-      ties_aside guest rings slots old new seats (Start at) tt tied legal (start_follows guest old.past at ours end fresh (sym is)) same past,
-      rw past (start_ends guest old.past at ours end fresh),
-    )
-
-pub ties_begun : (guest : Guest) (rings : List TableId) (slots : List SlotRow) (old new : log.State) (seats : List KernelView) (at : ℕ) → AreTied guest rings slots old seats → IsLegalSoFar old.guest old.past → AtTurnsEnd guest old.past → started old.past ≡ false
-    → new.guest ≡ old.guest → new.past ≡ (begun at old.past (first_unpaced guest old.past old.past)).1 → AreTied guest rings slots new seats × AtTurnsEnd guest new.past
-ties_begun guest rings slots old new seats at = begun_case guest rings slots old new seats at (first_unpaced guest old.past old.past) refl

@@ -100,7 +100,11 @@ fn some_from(log: &Log, v: u32, n: u64) -> bool
 {
     log.is_legal();
     let pushes = log.pushes(v);
-    if n < pushes { log.some_deposited(v, n, pushes) } else { false }
+    if n < pushes {
+        log.some_deposited(v, n, pushes)
+    } else {
+        false
+    }
 }
 
 /// How many of a vCPU's entries are deposited, where these are its first; `None` where one isn't and a
@@ -112,5 +116,9 @@ pub fn deposited(log: &Log, v: u32) -> Option<u64>
     ensures none { result ≡ None → HasGap v log.now.past }
 {
     let missing = first_missing(log, v);
-    if some_from(log, v, missing) { None } else { Some(missing) }
+    if some_from(log, v, missing) {
+        None
+    } else {
+        Some(missing)
+    }
 }

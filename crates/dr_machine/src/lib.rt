@@ -2,6 +2,7 @@
 //! block of events; none is judged, since each is legal by proof.
 #![tactic(auto)]
 
+mod answering;
 mod deposits;
 mod exits;
 mod machine;
@@ -10,7 +11,10 @@ mod pushes;
 mod reads;
 mod resets;
 mod rig;
+mod rounds;
+mod searches;
 mod starts;
+mod steps;
 mod writes;
 
 pub use deposits::DepositFault;

@@ -8,7 +8,6 @@ ghost use Rattle.dr_history.specs.Entries.{resets};
 ghost use Rattle.dr_history.specs.Execution.{ops};
 ghost use Rattle.dr_history.specs.Legality.{IsLegal};
 ghost use Rattle.dr_history.specs.Memory.{page_bytes};
-ghost use Rattle.dr_history.specs.Protection.{started};
 ghost use Rattle.dr_history.specs.Rules.{deposits_entry};
 ghost use Rattle.dr_history.specs.Vcpus.{in_guest};
 ghost use Rattle.dr_ring.specs.Seats.{kernel_note, new_kernel};
@@ -19,6 +18,7 @@ ghost use Rattle.dr_turns.specs.Buffers.{all_pushed};
 ghost use Rattle.dr_turns.specs.Due.{advanced, run_end, some_closing};
 ghost use Rattle.dr_turns.specs.Turns.{refusal, op_step, after_op, exit_reason, after_exit, all_out};
 ghost use Rattle.dr_reaps.specs.Deposits.{first_twice, next_deposited, HasGap};
+ghost use Rattle.dr_machine.specs.Copies.{copied_into};
 ghost use Rattle.dr_machine.specs.Tied.{AreRingsFor};
 
 use crate::deposits::{DepositFault, deposit_fresh, deposited, first_twice};
@@ -27,7 +27,7 @@ use crate::ops::{full_buffer, make_room, next_op, step_after};
 use crate::pushes::push_where_full;
 use crate::reads::{all_out, run_end};
 use crate::resets::{flush, is_closing, is_next_deposited, reset_next};
-use crate::starts::begin;
+use crate::steps::step;
 use crate::writes::execute;
 use dr_bytes::PageBytes;
 use dr_history::History;
@@ -45,6 +45,7 @@ use std::marker::Model;
 /// and reset what the events say.
 #[derive(Drop)]
 pub struct Machine<N: Name> {
+    alloc: Global,
     log: Log,
     seats: KernelSeats<N>,
     slots: Slots,
@@ -81,6 +82,7 @@ impl<N: Name> Machine<N> {
     {
         let slots = Slots::new(alloc, &guest.slots)?;
         Ok(Machine {
+            alloc,
             log: Log::new(alloc, guest)?,
             seats,
             slots,
@@ -252,19 +254,22 @@ impl<N: Name> Machine<N> {
         }
     }
 
-    /// Does the step of the migrator that is due: Start, where each vCPU is paced.
-    #[tactic(auto, unfolding(dr_turns::specs::Due::advanced))]
+    /// Does the step of the migrator that is due: the first of the list that applies. A page that it
+    /// copies goes into the bytes.
     pub fn advance(&mut self, now: u64, into: &mut PageBytes) -> Result<Advance, Memory>
-        requires { started self.old.past ≡ false }
         ensures answer { IfOk result (λ a. a ≡ (advanced N.guest now self.old.past).0) }
         ensures appended { OnOk result (self.new.past ≡ (advanced N.guest now self.old.past).1) }
-        ensures into { into.new ≡ into.old }
+        ensures seats { self.new.seats ≡ self.old.seats }
         ensures over { self.new.over ≡ self.old.over }
+        ensures into { IfOk result (λ a. into.new ≡ copied_into N.guest self.old.past a into.old) }
         ensures err { OnErr result (self.new ≡ self.old) }
+        ensures kept { OnErr result (into.new ≡ into.old) }
     {
         self.log.is_legal();
         self.log.reserve(1)?;
-        Ok(begin(&mut self.log, now))
+        let step = step(&mut self.log, self.alloc, now, into)?;
+        self.log.is_legal();
+        Ok(step)
     }
 
     /// Ends the run: from now on no vCPU executes.

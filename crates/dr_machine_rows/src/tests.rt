@@ -75,7 +75,13 @@ halt
 ";
 
 /// The calls answer as they should on the guest of a text.
-fn holds(alloc: Global, text: &str, early: u32, calls: &[Call], lines: &str) -> Result<bool, Memory> {
+fn holds(
+    alloc: Global,
+    text: &str,
+    early: u32,
+    calls: &[Call],
+    lines: &str,
+) -> Result<bool, Memory> {
     match read_guest(alloc, text.as_bytes()) {
         Ok(guest) => {
             let set = rings_for(alloc, &guest)?;

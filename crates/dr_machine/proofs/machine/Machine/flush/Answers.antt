@@ -17,6 +17,7 @@ invariant_of-self-then-is_closing g c =
     let tied : AreTied guest g.N.Name.rings c.self.inside.slots roomy c.self.inside.seats = ties_room guest g.N.Name.rings c.self.inside.slots old roomy c.self.inside.seats c.self.invariant.0 c.reserve.ensures.guest c.reserve.ensures.past in
     let now : IsLegalSoFar guest roomy.past = subst (λ (h : Guest). IsLegalSoFar h roomy.past) tied.guest_is c.is_legal.ensures.legal in
     let legal : IsLegalSoFar guest old.past = subst (λ (xs : List Event). IsLegalSoFar guest xs) c.reserve.ensures.past now in
-    let closing : some_closing guest old.past ≡ true = subst (λ (h : Guest). some_closing h old.past ≡ true) c.self.invariant.0.guest_is (sym c.is_closing.ensures ∙ c.if-is_closing.true) in
-    (ties_aside guest g.N.Name.rings c.self.inside.slots roomy c.flush.new.log c.self.inside.seats Flushed tt tied c.is_legal.ensures.legal (rw c.reserve.ensures.past (flush_follows guest old.past legal c.self.invariant.1 closing)) c.flush.ensures.guest c.flush.ensures.past,
-    rw (c.flush.ensures.past, c.reserve.ensures.past) (flush_ends guest old.past legal c.self.invariant.1 closing))
+    let closing : some_closing guest old.past ≡ true = subst (λ (h : Guest). some_closing h old.past ≡ true) c.self.invariant.0.guest_is (sym c.is_closing.ensures ∙ c.if-is_closing.true) in (
+      ties_aside guest g.N.Name.rings c.self.inside.slots roomy c.flush.new.log c.self.inside.seats Flushed tt tied c.is_legal.ensures.legal (rw c.reserve.ensures.past (flush_follows guest old.past legal c.self.invariant.1 closing)) c.flush.ensures.guest c.flush.ensures.past,
+      rw (c.flush.ensures.past, c.reserve.ensures.past) (flush_ends guest old.past legal c.self.invariant.1 closing),
+    )

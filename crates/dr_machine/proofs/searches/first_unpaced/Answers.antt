@@ -1,8 +1,8 @@
 use Rattle.std.proofs.Common.{◌≡◌, ◌<◌, false, rules}
 use Rattle.dr_types.specs.Scripts.{vcpu_count}
 use Rattle.dr_history.specs.Vcpus.{paced}
-use Rattle.dr_machine.proofs.Pacing.{unpaced_here}
-use Rattle.dr_machine.proofs.starts.first_unpaced.Goals as goal
+use Rattle.dr_machine.proofs.Least.{unpaced_here}
+use Rattle.dr_machine.proofs.searches.first_unpaced.Goals as goal
 
 pub returns-then-not-paced-clause-is : goal.returns-then-not-paced-clause-is
 returns-then-not-paced-clause-is c =
