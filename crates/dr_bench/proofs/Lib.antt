@@ -3,3 +3,4 @@ pub mod Keeping
 pub mod Counting
 pub mod Ranges
 pub mod Resetting
+pub mod Stepping

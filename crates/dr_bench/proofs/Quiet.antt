@@ -4,13 +4,13 @@ use Rattle.std.specs.Prelude.{nat_le, max, Result, Ok, Err, OnOk, OnErr, IfSome}
 use Rattle.std.proofs.lemmas.List.{append-nil}
 use Rattle.dr_types.specs.declared.guest.Guest.{Guest}
 use Rattle.dr_history.specs.declared.event.Event.{Event}
-use Rattle.dr_history.specs.declared.event.Event.TheVariants.{Start, Read, Write, Paint, Local, Halted, Opened, Filled, Pushed, Exited, Deposited, Reset, Flushed, Synced, Copied, Switched}
+use Rattle.dr_history.specs.declared.event.Event.TheVariants.{Start, Read, Write, Paint, Local, Halted, Opened, Filled, Pushed, Exited, Deposited, Reset, Flushed, Synced, Copied, Stopped, Switched}
 use Rattle.dr_history.specs.Lookback.{count}
 use Rattle.dr_history.specs.Kinds.{is_copied}
 use Rattle.dr_history.specs.Entries.{opens, pushes, resets}
 use Rattle.dr_history.specs.Rules.{vcpu_of_op}
 use Rattle.dr_history.specs.Stream.{stream_of, record_of}
-use Rattle.dr_history.specs.Vcpus.{in_guest}
+use Rattle.dr_history.specs.Vcpus.{in_guest, stopped}
 use Rattle.dr_law.specs.Room.{unpushed}
 use Rattle.dr_machine.specs.States.{State}
 use Rattle.dr_reaps.specs.Deposits.{next_deposited}
@@ -35,18 +35,24 @@ copies_none past (Copied r page) is = absurd is
 copies_none past Switched is = absurd is
 copies_none past e is = refl
 
+stops_none : (past : List Event) (e : Event) → IsSilent e → stopped (e ∷ past) ≡ stopped past
+stops_none past (Start at) is = absurd is
+stops_none past Stopped is = absurd is
+stops_none past e is = refl
+
 -- by one event
 pub quiet_silent : (guest : Guest) (past : List Event) (e : Event) → IsSilent e → IsQuiet guest past (e ∷ past)
 quiet_silent guest past e is = record {
   stream = ap (λ xs. stream_of guest past ++ xs) (adds_none guest past e is) ∙ append-nil (stream_of guest past);
   copied = copies_none past e is;
+  stop = stops_none past e is;
 }
 
 pub quiet_still : (guest : Guest) (past : List Event) → IsQuiet guest past past
-quiet_still guest past = record { stream = refl; copied = refl }
+quiet_still guest past = record { stream = refl; copied = refl; stop = refl }
 
 pub quiet_then : (guest : Guest) (old mid new : List Event) → IsQuiet guest old mid → IsQuiet guest mid new → IsQuiet guest old new
-quiet_then guest old mid new a b = record { stream = b.stream ∙ a.stream; copied = b.copied ∙ a.copied }
+quiet_then guest old mid new a b = record { stream = b.stream ∙ a.stream; copied = b.copied ∙ a.copied; stop = b.stop ∙ a.stop }
 
 -- to what is the same list
 pub quiet_to : (guest : Guest) (old mid new : List Event) → IsQuiet guest old mid → new ≡ mid → IsQuiet guest old new

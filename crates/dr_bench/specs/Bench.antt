@@ -4,10 +4,11 @@ use Rattle.dr_types.specs.declared.guest.Guest.{Guest}
 use Rattle.dr_types.specs.declared.port.Port.TheVariants.{Stream}
 use Rattle.dr_types.specs.Ports.{Ports, put_at, Rose}
 use Rattle.dr_history.specs.declared.event.Event.{Event}
-use Rattle.dr_history.specs.declared.event.Event.TheVariants.{Start, Synced, Copied, Switched}
+use Rattle.dr_history.specs.declared.event.Event.TheVariants.{Start, Synced, Copied, Stopped, Switched}
 use Rattle.dr_history.specs.Lookback.{count}
 use Rattle.dr_history.specs.Kinds.{is_copied}
 use Rattle.dr_history.specs.Stream.{stream_of}
+use Rattle.dr_history.specs.Vcpus.{stopped}
 use Rattle.dr_ring.specs.Seats.{KernelView}
 use Rattle.dr_machine.specs.States as machine
 use Rattle.dr_stream.specs.Sending.{Sending}
@@ -54,19 +55,22 @@ pub record SameOutlet (old new : BenchState) : Type 0 where
   pub told : new.told ≡ old.told
   pub faults : new.faults ≡ old.faults
 
--- so many pages were put
-pub record IsCounted (past : List Event) (pages : ℕ) : Type 0 where
+-- so many pages were put, and whether the guest is stopped
+pub record IsTracked (past : List Event) (pages : ℕ) (is_stopped : Bool) : Type 0 where
   pub copied : pages ≡ count is_copied past
+  pub stop : is_stopped ≡ stopped past
 
--- nothing of the event is on the stream
+-- nothing of the event is on the stream, and it stops nothing
 abbrev pub IsSilent : Event → Type 0
 IsSilent (Start at) = ⊥
 IsSilent (Synced r at pages) = ⊥
 IsSilent (Copied r page) = ⊥
+IsSilent Stopped = ⊥
 IsSilent Switched = ⊥
 IsSilent e = Unit {0}
 
--- what happened since put nothing on the stream
+-- what happened since put nothing on the stream and stopped nothing
 pub record IsQuiet (guest : Guest) (old new : List Event) : Type 0 where
   pub stream : stream_of guest new ≡ stream_of guest old
   pub copied : count is_copied new ≡ count is_copied old
+  pub stop : stopped new ≡ stopped old

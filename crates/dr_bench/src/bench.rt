@@ -32,6 +32,26 @@ use dr_turns::{RunEnd, Turn};
 use dr_types::{Guest, Memory, Why};
 use std::marker::Model;
 
+/// Why a step of the migrator failed.
+#[derive(Clone, Copy, Debug, PartialEq, Eq)]
+pub enum BenchFault {
+    /// A put of the stream failed.
+    Sink,
+    /// An allocation was refused.
+    Memory,
+}
+
+impl From<Memory> for BenchFault {
+    ghost use Rattle.std.specs.Prelude.{◌≡◌};
+    ghost use Rattle.dr_bench.specs.declared.bench.BenchFault.TheVariants.{Memory};
+
+    ghost from_gives = { λ _ fault. fault ≡ Memory };
+
+    fn from(_error: Memory) -> BenchFault {
+        BenchFault::Memory
+    }
+}
+
 /// A machine and the outlet that its stream goes to. Its type keeps that the outlet's Stream port has
 /// grown by the stream of what happened, or by a first part of it after a failed put, and that its
 /// other ports are what they were. Contracts see the machine, the outlet, and whether a put failed.
@@ -40,11 +60,12 @@ pub struct Bench<N: Name, O: Outlet> {
     machine: Machine<N>,
     sender: Sender<O>,
     copied: PageBytes,
+    stopped: bool,
     failed: bool,
 }
 
 impl<N: Name, O: Outlet> Model for Bench<N, O> {
-    ghost use Rattle.dr_bench.specs.Bench.{BenchState, BenchKeeps, IsCounted, bench_of};
+    ghost use Rattle.dr_bench.specs.Bench.{BenchState, BenchKeeps, IsTracked, bench_of};
 
     ghost Value = { BenchState };
 
@@ -52,7 +73,7 @@ impl<N: Name, O: Outlet> Model for Bench<N, O> {
 
     ghost invariant = { λ b.
         BenchKeeps N.guest N.ports N.faults (bench_of b.machine b.sender b.failed)
-        × IsCounted b.machine.past b.sender.pages };
+        × IsTracked b.machine.past b.sender.pages b.stopped };
 }
 
 impl<N: Name, O: Outlet> Bench<N, O> {
@@ -74,6 +95,7 @@ impl<N: Name, O: Outlet> Bench<N, O> {
             machine,
             sender: Sender::new(out),
             copied: page,
+            stopped: false,
             failed: false,
         }
     }

@@ -6,5 +6,5 @@ mod deposits;
 mod resets;
 mod settling;
 
-pub use bench::Bench;
+pub use bench::{Bench, BenchFault};
 pub use settling::settle;
