@@ -1,4 +1,4 @@
-ghost use Rattle.std.specs.Prelude.{◌≡◌, ◌<◌, ◌≤◌, ◌+◌, ◌∷◌, ℕ, [], true, false, length, nat_lt, slice_get, Ok, Err, Some, None, IfOk, IfErr, OnOk, OnErr, IfSome};
+ghost use Rattle.std.specs.Prelude.{◌≡◌, ◌<◌, ◌≤◌, ◌+◌, ◌-◌, ◌^◌, ◌∷◌, ℕ, [], true, false, length, nat_lt, slice_get, Ok, Err, Some, None, IfOk, IfErr, OnOk, OnErr, IfSome};
 ghost use Rattle.std.specs.List.{list_any};
 ghost use Rattle.dr_types.specs.Pages.{page_count};
 ghost use Rattle.dr_types.specs.Ports.{Rose};
@@ -7,7 +7,9 @@ ghost use Rattle.dr_types.specs.Validity.{IsValid};
 ghost use Rattle.dr_history.specs.declared.event.Event.{Event};
 ghost use Rattle.dr_history.specs.Entries.{resets};
 ghost use Rattle.dr_history.specs.Execution.{ops};
+ghost use Rattle.dr_history.specs.Kinds.{is_copied};
 ghost use Rattle.dr_history.specs.Legality.{IsLegal};
+ghost use Rattle.dr_history.specs.Lookback.{count};
 ghost use Rattle.dr_history.specs.Memory.{page_bytes};
 ghost use Rattle.dr_history.specs.Rules.{deposits_entry};
 ghost use Rattle.dr_history.specs.Vcpus.{in_guest};
@@ -17,18 +19,21 @@ ghost use Rattle.dr_ring.specs.Seats.{kernel_note};
 ghost use Rattle.dr_rings.specs.Seated.{HasAt};
 ghost use Rattle.dr_seats.specs.Seats.{AreSeats};
 ghost use Rattle.dr_turns.specs.Buffers.{all_pushed};
-ghost use Rattle.dr_turns.specs.Due.{run_end, some_closing};
+ghost use Rattle.dr_turns.specs.Due.{advanced, run_end, some_closing};
 ghost use Rattle.dr_turns.specs.Turns.{refusal, op_step, after_op, exit_reason, after_exit, all_out};
-ghost use Rattle.dr_bench.specs.Bench.{BenchKeeps, SameOutlet, bench_of};
+ghost use Rattle.dr_bench.specs.Bench.{BenchKeeps, SameOutlet};
+ghost use Rattle.dr_bench.specs.Stepped.{StepFails};
 
+use crate::steps::{opens_at, put_step, stopped_after};
 use dr_bytes::PageBytes;
 use dr_history::History;
-use dr_io::Outlet;
+use dr_io::{Outlet, PutTurn};
 use dr_machine::{DepositFault, Machine};
 use dr_ring::{Name, Note};
 use dr_rings::{Batch, Rings};
+use dr_slots::page_count;
 use dr_stream::Sender;
-use dr_turns::{RunEnd, Turn};
+use dr_turns::{Advance, RunEnd, Turn};
 use dr_types::{Guest, Memory, Why};
 use std::marker::Model;
 
@@ -238,6 +243,43 @@ impl<N: Name, O: Outlet> Bench<N, O> {
         ensures outlet { SameOutlet self.old self.new }
     {
         self.machine.flush()
+    }
+
+    /// Does the step of the migrator that is due, and puts its record in the same turn. Where that
+    /// put fails, what the step appended stands, and the run is given up.
+    pub fn advance(&mut self, now: u64) -> Result<Advance, BenchFault>
+        requires { self.old.failed ≡ false }
+        ensures answer { IfOk result (λ a. a ≡ (advanced N.guest now self.old.past).0) }
+        ensures appended { OnOk result (self.new.past ≡ (advanced N.guest now self.old.past).1) }
+        ensures over { OnOk result (self.new.over ≡ self.old.over) }
+        ensures failed { OnOk result (self.new.failed ≡ false) }
+        ensures seats { self.new.seats ≡ self.old.seats }
+        ensures later { self.old.faults ≤ self.new.faults }
+        ensures fault { IfErr result (StepFails N.guest now self.old self.new) }
+    {
+        self.has_room();
+        let pages = page_count(self.machine.guest());
+        let step = self.machine.advance(now, &mut self.copied)?;
+        let opens = opens_at(self.machine.guest(), self.stopped, step);
+        self.stopped = stopped_after(self.stopped, step);
+        match put_step(&mut self.sender, step, opens, pages, &self.copied) {
+            PutTurn::Done => Ok(step),
+            PutTurn::Failed => {
+                self.failed = true;
+                self.machine.give_up();
+                Err(BenchFault::Sink)
+            }
+        }
+    }
+
+    /// One page more may be put, and the guest's pages have room in their count.
+    #[tactic(auto, using(crate::proofs::Counting::copied_fits))]
+    fn has_room(&self)
+        ensures few { count is_copied self.now.past < 2 ^ 32 - 1 }
+        ensures pages { page_count N.guest < 2 ^ 32 }
+    {
+        let _guest = self.machine.guest();
+        self.machine.keeps();
     }
 
     /// Ends the run: from now on no vCPU executes.

@@ -5,6 +5,7 @@ mod bench;
 mod deposits;
 mod resets;
 mod settling;
+mod steps;
 
 pub use bench::{Bench, BenchFault};
 pub use settling::settle;
