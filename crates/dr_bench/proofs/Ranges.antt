@@ -1,11 +1,11 @@
 -- Lists of batches by vCPU, and what their deposits leave.
 use Rattle.std.proofs.Common.{◌≡◌, ℕ, zero, suc, ◌+◌, ◌<◌, ◌≤◌, Bool, true, false, cond, List, [], ◌∷◌, ◌++◌, map, take, drop, length, refl, ap, sym, subst, ◌∙◌, append_assoc, arith, add-one, inl, inr}
-use Rattle.std.specs.Prelude.{◌==◌, slice_index_or, ◌⊎◌}
+use Rattle.std.specs.Prelude.{◌==◌, slice_index_or, Option, Some, None}
 use Rattle.std.specs.List.{filter, remove}
 use Rattle.std.proofs.lemmas.List.{append-nil}
 use Rattle.std.proofs.lemmas.Bool.{eqb-true, eq-eqb, ne_eqb, true≢false, cases_lt}
 use Rattle.dr_history.specs.declared.event.Event.{Event}
-use Rattle.dr_bench.specs.Settled.{Range, of_vcpu, in_order, deposited_one, deposited_all, Deposits, DepositsPart}
+use Rattle.dr_bench.specs.Settled.{Range, of_vcpu, in_order, deposited_one, deposited_all, Deposits, DepositsPart, IsFresh}
 
 -- by one test
 picked_none : (test : Bool) (r : Range) (rs : List Range) → cond test (r ∷ rs) rs ≡ [] → (test ≡ false) × (rs ≡ [])
@@ -58,8 +58,13 @@ deposits_more rs left rest r old mid new d is one = record {
 pub deposits_whole : (rs left : List Range) (old new : List Event) → Deposits rs left old new → left ≡ [] → new ≡ deposited_all rs old
 deposits_whole rs left old new d is = d.past ∙ ap (λ xs. deposited_all xs old) (sym (d.parts ∙ ap (λ xs. d.done ++ xs) is ∙ append-nil d.done))
 
-pub deposits_part : (rs left : List Range) (old mid new : List Event) → Deposits rs left old mid → new ≡ mid → DepositsPart rs old new
-deposits_part rs left old mid new d same = record { left = left; deposits = record { done = d.done; parts = d.parts; past = same ∙ d.past } }
+pub deposits_part : (rs left rest : List Range) (next : Range) (old mid new : List Event) → Deposits rs left old mid → left ≡ next ∷ rest → IsFresh next mid → new ≡ mid → DepositsPart rs old new
+deposits_part rs left rest next old mid new d is fresh same = record {
+  next = next;
+  rest = rest;
+  deposits = record { done = d.done; parts = d.parts ∙ ap (λ xs. d.done ++ xs) is; past = same ∙ d.past };
+  fresh = subst (IsFresh next) (sym same) fresh;
+}
 
 -- those of one more vCPU are deposited
 pub order_more : (v : ℕ) (rs here : List Range) (old mid new : List Event) → mid ≡ deposited_all (in_order v rs) old → here ≡ of_vcpu v rs → new ≡ deposited_all here mid → new ≡ deposited_all (in_order (v + 1) rs) old
@@ -88,12 +93,14 @@ order_part v n rs here old mid new lt before is part =
     let b = order_begins rs (suc v) n (omega (arith, lt)) in
     let d = part.deposits in
     record {
-      left = part.left ++ b.rest;
+      next = part.next;
+      rest = part.rest ++ b.rest;
+      fresh = part.fresh;
       deposits = record {
         done = in_order v rs ++ d.done;
         parts = b.parts ∙ ap (λ xs. (in_order v rs ++ xs) ++ b.rest) (sym is ∙ d.parts)
-            ∙ ap (λ xs. xs ++ b.rest) (sym (append_assoc (in_order v rs) d.done part.left))
-            ∙ append_assoc (in_order v rs ++ d.done) part.left b.rest;
+            ∙ ap (λ xs. xs ++ b.rest) (sym (append_assoc (in_order v rs) d.done (part.next ∷ part.rest)))
+            ∙ append_assoc (in_order v rs ++ d.done) (part.next ∷ part.rest) b.rest;
         past = d.past ∙ ap (deposited_all d.done) before ∙ sym (deposited_append (in_order v rs) d.done old);
       };
     }
@@ -103,3 +110,7 @@ pub same_at : {X : Type 0} (xs : List X) (i : ℕ) (a b : X) → i < length xs �
 same_at [] i a b lt = absurd (omega (arith, lt))
 same_at (x ∷ xs) zero a b lt = refl
 same_at (x ∷ xs) (suc i) a b lt = same_at xs i a b (omega (arith, lt))
+
+pub none_where : (o : Option ℕ) → ((k : ℕ) → o ≡ Some k → ⊥) → o ≡ None
+none_where None f = refl
+none_where (Some k) f = absurd (f k refl)

@@ -49,10 +49,17 @@ pub record Deposits (rs left : List Range) (old new : List Event) : Type 0 where
   pub parts : rs ≡ done ++ left
   pub past : new ≡ deposited_all done old
 
--- some first of these ranges were deposited
+-- there is an entry in the range, and none of it was deposited
+pub record IsFresh (r : Range) (past : List Event) : Type 0 where
+  pub some : 0 < r.count
+  pub none : first_twice r.vcpu r.first past (r.first + r.count) ≡ None
+
+-- some first of these ranges were deposited, and the next one is to be
 pub record DepositsPart (rs : List Range) (old new : List Event) : Type 0 where
-  pub left : List Range
-  pub deposits : Deposits rs left old new
+  pub next : Range
+  pub rest : List Range
+  pub deposits : Deposits rs (next ∷ rest) old new
+  pub fresh : IsFresh next new
 
 -- behind these events so many Reset of the vCPU, each of its next entry
 abbrev pub reset_behind : ℕ → ℕ → List Event → List Event

@@ -1,7 +1,7 @@
 ghost use Rattle.std.specs.Prelude.{◌≡◌, ◌<◌, ◌+◌, ◌==◌, ℕ, [], ◌∷◌, false, map, length, None, IfSome, OnOk, OnErr};
 ghost use Rattle.dr_types.specs.Scripts.{vcpu_count};
 ghost use Rattle.dr_bench.specs.Bench.{SameOutlet};
-ghost use Rattle.dr_bench.specs.Settled.{range_of, of_vcpu, in_order, deposited_one, deposited_all, DepositsPart};
+ghost use Rattle.dr_bench.specs.Settled.{range_of, of_vcpu, in_order, deposited_one, deposited_all, DepositsPart, IsFresh};
 
 use crate::bench::Bench;
 use dr_io::Outlet;
@@ -42,6 +42,8 @@ pub fn deposit_one<N: Name, O: Outlet>(
     ensures over { bench.new.over ≡ bench.old.over }
     ensures outlet { SameOutlet bench.old bench.new }
     ensures err { OnErr result (bench.new ≡ bench.old) }
+    ensures fresh { let range = range_of batch.vcpu batch.first (length batch.entries) in
+        OnErr result (IsFresh range bench.old.past) }
 {
     if batch.is_empty() {
         return Ok(());
