@@ -1,6 +1,6 @@
 -- Lists of batches by vCPU, and what their deposits leave.
 use Rattle.std.proofs.Common.{◌≡◌, ℕ, zero, suc, ◌+◌, ◌<◌, ◌≤◌, Bool, true, false, cond, List, [], ◌∷◌, ◌++◌, map, take, drop, length, refl, ap, sym, subst, ◌∙◌, append_assoc, arith, add-one, inl, inr}
-use Rattle.std.specs.Prelude.{◌==◌, slice_index_or, Option, Some, None}
+use Rattle.std.specs.Prelude.{◌==◌, slice_index_or}
 use Rattle.std.specs.List.{filter, remove}
 use Rattle.std.proofs.lemmas.List.{append-nil}
 use Rattle.std.proofs.lemmas.Bool.{eqb-true, eq-eqb, ne_eqb, true≢false, cases_lt}
@@ -110,7 +110,3 @@ pub same_at : {X : Type 0} (xs : List X) (i : ℕ) (a b : X) → i < length xs �
 same_at [] i a b lt = absurd (omega (arith, lt))
 same_at (x ∷ xs) zero a b lt = refl
 same_at (x ∷ xs) (suc i) a b lt = same_at xs i a b (omega (arith, lt))
-
-pub none_where : (o : Option ℕ) → ((k : ℕ) → o ≡ Some k → ⊥) → o ≡ None
-none_where None f = refl
-none_where (Some k) f = absurd (f k refl)

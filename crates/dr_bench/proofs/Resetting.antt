@@ -29,8 +29,12 @@ resets_more v n old mid new r due one = record {
 pub resets_all : (v n : ℕ) (old mid new : List Event) → Resets v old mid n → next_deposited v mid ≡ false → new ≡ mid → ResetsAll v old new n
 resets_all v n old mid new r none same = record { resets = record { past = same ∙ r.past; due = r.due }; none = ap (next_deposited v) same ∙ none }
 
-pub resets_some : (v n : ℕ) (old mid new : List Event) → Resets v old mid n → new ≡ mid → ResetsSome v old new
-resets_some v n old mid new r same = record { count = n; resets = record { past = same ∙ r.past; due = r.due } }
+pub resets_some : (v n : ℕ) (old mid new : List Event) → Resets v old mid n → next_deposited v mid ≡ true → new ≡ mid → ResetsSome v old new
+resets_some v n old mid new r due same = record {
+  count = n;
+  resets = record { past = same ∙ r.past; due = r.due };
+  due = ap (next_deposited v) same ∙ due;
+}
 
 pub below_none : (old : List Event) → ResetsBelow 0 old old 0
 below_none old = (refl, refl)
@@ -43,7 +47,7 @@ below_more v t n total old mid new below all is =
 pub below_part : (v vcpus t : ℕ) (old mid new : List Event) → v < vcpus → ResetsBelow v old mid t → ResetsSome v mid new → ResetsPart vcpus old new
 below_part v vcpus t old mid new lt below some = record {
   vcpu = v;
-  within = omega (arith, lt);
+  within = lt;
   mid = mid;
   before = t;
   below = below;

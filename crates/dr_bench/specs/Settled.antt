@@ -1,5 +1,5 @@
 -- What a settling leaves: deposits in the order of the vCPUs, then resets, then a flush.
-use Rattle.std.specs.Prelude.{◌≡◌, ℕ, zero, suc, ◌+◌, ◌<◌, ◌≤◌, ◌==◌, true, false, ◌⊎◌, if◌then◌else◌, List, [], ◌∷◌, ◌++◌, Option, Some, None}
+use Rattle.std.specs.Prelude.{◌≡◌, ℕ, zero, suc, ◌+◌, ◌<◌, ◌==◌, true, false, ◌⊎◌, if◌then◌else◌, List, [], ◌∷◌, ◌++◌, Option, Some, None}
 use Rattle.std.specs.List.{filter}
 use Rattle.dr_types.specs.declared.guest.Guest.{Guest}
 use Rattle.dr_types.specs.Scripts.{vcpu_count}
@@ -72,10 +72,11 @@ pub record Resets (v : ℕ) (old new : List Event) (n : ℕ) : Type 0 where
   pub past : new ≡ reset_behind v n old
   pub due : (k : ℕ) → k < n → next_deposited v (reset_behind v k old) ≡ true
 
--- some Reset of the vCPU were appended
+-- some Reset of the vCPU were appended, and the next one is to be
 pub record ResetsSome (v : ℕ) (old new : List Event) : Type 0 where
   pub count : ℕ
   pub resets : Resets v old new count
+  pub due : next_deposited v new ≡ true
 
 -- so many were, and the next entry isn't deposited
 pub record ResetsAll (v : ℕ) (old new : List Event) (n : ℕ) : Type 0 where
@@ -91,7 +92,7 @@ ResetsBelow (suc v) old new total =
 -- the vCPUs before one reset all that they can, and that one some
 pub record ResetsPart (vcpus : ℕ) (old new : List Event) : Type 0 where
   pub vcpu : ℕ
-  pub within : vcpu ≤ vcpus
+  pub within : vcpu < vcpus
   pub mid : List Event
   pub before : ℕ
   pub below : ResetsBelow vcpu old mid before
@@ -108,8 +109,15 @@ pub record Settles (guest : Guest) (rs : List Range) (old new : List Event) (n :
   pub resets : ResetsBelow (vcpu_count guest) (deposited_all (in_order (vcpu_count guest) rs) old) mid n
   pub past : new ≡ flushed guest mid
 
--- some of these turns were made, each whole and in this order
+-- all vCPUs reset all that they can, and a flush is to come
+pub record FlushWaits (guest : Guest) (old new : List Event) : Type 0 where
+  pub count : ℕ
+  pub resets : ResetsBelow (vcpu_count guest) old new count
+  pub closing : some_closing guest new ≡ true
+
+-- some of these turns were made, each whole and in this order, and the next one is due
 abbrev pub SettlesPart : Guest → List Range → List Event → List Event → Type 0
 SettlesPart guest rs old new =
     let order = in_order (vcpu_count guest) rs in
-    DepositsPart order old new ⊎ ResetsPart (vcpu_count guest) (deposited_all order old) new
+    let reaped = deposited_all order old in
+    DepositsPart order old new ⊎ ResetsPart (vcpu_count guest) reaped new ⊎ FlushWaits guest reaped new

@@ -36,6 +36,7 @@ fn reset_one<N: Name, O: Outlet>(
     ensures over { bench.new.over ≡ bench.old.over }
     ensures outlet { SameOutlet bench.old bench.new }
     ensures err { OnErr result (bench.new ≡ bench.old) }
+    ensures needed { OnErr result (next_deposited v bench.old.past ≡ true) }
 {
     let count = bench.reset_turn(rings, v);
     has_few(bench, v);
