@@ -1,5 +1,5 @@
 -- How many pages are copied and how many entries are reset at most.
-use Rattle.std.proofs.Common.{◌≡◌, ℕ, zero, suc, ◌+◌, ◌*◌, ◌^◌, ◌-◌, ◌<◌, ◌≤◌, Bool, true, false, cond, List, [], ◌∷◌, ◌++◌, Option, Some, None, is_some, length, refl, ap, sym, ◌∙◌, arith, add-one, slice_get}
+use Rattle.std.proofs.Common.{◌≡◌, ℕ, zero, suc, ◌+◌, ◌*◌, ◌^◌, ◌-◌, ◌<◌, ◌≤◌, Bool, true, false, cond, List, [], ◌∷◌, is_some, length, refl, ap, sym, ◌∙◌, arith, add-one, slice_get}
 use Rattle.std.specs.Prelude.{◌==◌}
 use Rattle.std.proofs.lemmas.Bool.{false≢true}
 use Rattle.std.proofs.lemmas.List.{length-append}
@@ -15,7 +15,7 @@ use Rattle.dr_history.specs.Entries.{opens, pushes, resets}
 use Rattle.dr_history.specs.Execution.{ops}
 use Rattle.dr_history.specs.Kinds.{is_copied, is_synced}
 use Rattle.dr_history.specs.Legality.{IsLegalSoFar}
-use Rattle.dr_history.specs.Lookback.{below, count, since, is_number}
+use Rattle.dr_history.specs.Lookback.{below, count, is_number}
 use Rattle.dr_history.specs.Rounds.{asks, unanswered, last_synced}
 use Rattle.dr_law.specs.Copies.{copies, pages_of}
 use Rattle.dr_law.specs.Length.{script_length}

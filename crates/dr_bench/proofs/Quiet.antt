@@ -1,5 +1,5 @@
 -- Turns that put nothing on the stream.
-use Rattle.std.proofs.Common.{◌≡◌, ℕ, zero, suc, ◌+◌, Bool, true, false, cond, List, [], ◌∷◌, ◌++◌, Option, Some, None, refl, ap, sym, ◌∙◌}
+use Rattle.std.proofs.Common.{◌≡◌, ℕ, zero, suc, Bool, true, false, cond, List, [], ◌∷◌, ◌++◌, Option, Some, None, refl, ap, ◌∙◌}
 use Rattle.std.specs.Prelude.{nat_le, max, Result, Ok, Err, OnOk, OnErr, IfSome}
 use Rattle.std.proofs.lemmas.List.{append-nil}
 use Rattle.dr_types.specs.declared.guest.Guest.{Guest}
@@ -14,7 +14,7 @@ use Rattle.dr_history.specs.Vcpus.{in_guest, stopped}
 use Rattle.dr_law.specs.Room.{unpushed}
 use Rattle.dr_machine.specs.States.{State}
 use Rattle.dr_reaps.specs.Deposits.{next_deposited}
-use Rattle.dr_turns.specs.Buffers.{pushed_behind, all_pushed, pushed_where_full}
+use Rattle.dr_turns.specs.Buffers.{pushed_behind, all_pushed}
 use Rattle.dr_turns.specs.Due.{some_closing}
 use Rattle.dr_turns.specs.Turns.{refusal, executed, after_op, exit_reason, after_exit}
 use Rattle.dr_turns.specs.declared.answers.Turn.{Turn}

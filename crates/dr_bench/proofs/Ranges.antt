@@ -1,9 +1,9 @@
 -- Lists of batches by vCPU, and what their deposits leave.
-use Rattle.std.proofs.Common.{◌≡◌, ℕ, zero, suc, ◌+◌, ◌<◌, ◌≤◌, Bool, true, false, cond, List, [], ◌∷◌, ◌++◌, map, take, drop, length, refl, ap, sym, subst, ◌∙◌, append_assoc, arith, add-one, inl, inr}
+use Rattle.std.proofs.Common.{◌≡◌, ℕ, zero, suc, ◌+◌, ◌<◌, ◌≤◌, Bool, true, false, cond, List, [], ◌∷◌, ◌++◌, map, take, length, refl, ap, sym, subst, ◌∙◌, append_assoc, arith, add-one, inl, inr}
 use Rattle.std.specs.Prelude.{◌==◌, slice_index_or}
-use Rattle.std.specs.List.{filter, remove}
+use Rattle.std.specs.List.{remove}
 use Rattle.std.proofs.lemmas.List.{append-nil}
-use Rattle.std.proofs.lemmas.Bool.{eqb-true, eq-eqb, ne_eqb, true≢false, cases_lt}
+use Rattle.std.proofs.lemmas.Bool.{ne_eqb, true≢false, cases_lt}
 use Rattle.dr_history.specs.declared.event.Event.{Event}
 use Rattle.dr_bench.specs.Settled.{Range, of_vcpu, in_order, deposited_one, deposited_all, Deposits, DepositsPart, IsFresh}
 

@@ -1,7 +1,7 @@
 -- The stream grows by what a step puts.
-use Rattle.std.proofs.Common.{◌≡◌, ℕ, zero, suc, ◌+◌, ◌≤◌, ◌^◌, ◌-◌, min, Bool, true, false, cond, List, [], ◌∷◌, ◌++◌, take, length, refl, ap, sym, subst, ◌∙◌, arith}
+use Rattle.std.proofs.Common.{◌≡◌, ℕ, zero, suc, ◌+◌, ◌≤◌, Bool, true, false, cond, List, [], ◌∷◌, ◌++◌, take, length, refl, ap, sym, subst, ◌∙◌, arith}
 use Rattle.std.proofs.Math.Seq.{take-append-add}
-use Rattle.std.specs.Prelude.{◌&&◌, ◌||◌, not, nat_le}
+use Rattle.std.specs.Prelude.{◌&&◌, not, nat_le}
 use Rattle.std.proofs.lemmas.Bool.{false≢true}
 use Rattle.std.proofs.lemmas.List.{append-nil}
 use Rattle.dr_types.specs.declared.guest.Guest.{Guest}
@@ -27,8 +27,8 @@ use Rattle.dr_stream.specs.Sending.{Sending, Sends}
 use Rattle.dr_turns.specs.Due.{advanced, throttled_behind, answered_behind}
 use Rattle.dr_turns.specs.declared.answers.Advance.{Advance}
 use Rattle.dr_turns.specs.declared.answers.Advance.TheVariants as advance
-use Rattle.dr_bench.specs.Bench.{BenchKeeps, IsTracked, IsPartOf, IsQuiet, bench_of}
-use Rattle.dr_bench.specs.Stepped.{is_copy, is_stopping, opens_at, step_bytes, pages_after}
+use Rattle.dr_bench.specs.Bench.{BenchKeeps, IsTracked, IsQuiet, bench_of}
+use Rattle.dr_bench.specs.Stepped.{is_stopping, opens_at, step_bytes, pages_after}
 use Rattle.dr_bench.proofs.Quiet.{quiet_silent, quiet_still, quiet_then}
 
 -- what a step of this answer adds

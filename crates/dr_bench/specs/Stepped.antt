@@ -1,14 +1,8 @@
 -- What a step of the migrator puts, and what it leaves where that fails.
-use Rattle.std.specs.Prelude.{◌≡◌, ℕ, ◌+◌, ◌||◌, Bool, true, false, nat_lt, if◌then◌else◌, List, [], ◌++◌}
+use Rattle.std.specs.Prelude.{◌≡◌, ℕ, ◌+◌, ◌||◌, Bool, true, false, nat_lt, if◌then◌else◌, List, []}
 use Rattle.dr_types.specs.declared.guest.Guest.{Guest}
-use Rattle.dr_types.specs.Pages.{page_count}
 use Rattle.dr_types.specs.Ports.{Rose}
-use Rattle.dr_history.specs.declared.event.Event.{Event}
-use Rattle.dr_history.specs.Lookback.{count}
-use Rattle.dr_history.specs.Kinds.{is_copied}
-use Rattle.dr_history.specs.Memory.{page_bytes}
-use Rattle.dr_history.specs.Stream.{stream_of, header, round_record, page_record, end_record}
-use Rattle.dr_history.specs.Vcpus.{stopped}
+use Rattle.dr_history.specs.Stream.{header, round_record, page_record, end_record}
 use Rattle.dr_turns.specs.Due.{advanced}
 use Rattle.dr_turns.specs.declared.answers.Advance.{Advance}
 use Rattle.dr_turns.specs.declared.answers.Advance.TheVariants as advance

@@ -1,5 +1,5 @@
-use Rattle.std.proofs.Common.{◌∙◌, length, map}
-use Rattle.dr_bench.specs.Settled.{range_of, of_vcpu}
+use Rattle.std.proofs.Common.{◌∙◌, length}
+use Rattle.dr_bench.specs.Settled.{range_of}
 use Rattle.dr_bench.proofs.Keeping.{outlet_then}
 use Rattle.dr_bench.proofs.Ranges.{deposits_more}
 use Rattle.dr_bench.proofs.deposits.deposit_of.Goals as goal

@@ -1,8 +1,6 @@
-use Rattle.std.proofs.Common.{◌≡◌, ◌<◌, ◌∙◌, ◌==◌, ◌∷◌, List, true, false, map, length, ap, sym, subst, arith}
-use Rattle.std.specs.Prelude.{slice_index_or}
+use Rattle.std.proofs.Common.{◌≡◌, ◌<◌, ◌∙◌, ◌==◌, ◌∷◌, true, map, length, ap, sym, subst, arith}
 use Rattle.std.proofs.lemmas.Bool.{eq-eqb}
-use Rattle.std.specs.List.{remove}
-use Rattle.dr_bench.specs.Settled.{Range, range_of, of_vcpu}
+use Rattle.dr_bench.specs.Settled.{range_of, of_vcpu}
 use Rattle.dr_bench.proofs.Ranges.{first_taken, others_stay, same_at, not_other}
 use Rattle.dr_bench.proofs.deposits.take_first.Goals as goal
 
