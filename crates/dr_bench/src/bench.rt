@@ -82,8 +82,8 @@ impl<N: Name, O: Outlet> Model for Bench<N, O> {
 }
 
 impl<N: Name, O: Outlet> Bench<N, O> {
-    /// A bench of a machine of which nothing has happened, and an outlet that is as the name says. The
-    /// page is room for the bytes of copies.
+    /// A bench of a machine of which nothing has happened, and an outlet that is as the name says.
+    /// The page is room for the bytes of copies.
     #[tactic(auto, using(crate::proofs::Keeping::begins))]
     pub fn new(machine: Machine<N>, out: O, page: PageBytes) -> Bench<N, O>
         requires past { machine.past ≡ [] }

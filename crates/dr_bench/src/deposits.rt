@@ -12,15 +12,20 @@ use dr_types::Memory;
 
 /// Takes the first batch of a vCPU out of a list.
 pub fn take_first<N: Name>(batches: &mut Vec<Batch<N>>, v: u32) -> Option<Batch<N>>
-    ensures some { let old = map (λ b. range_of b.vcpu b.first (length b.entries)) batches.old.items in
-        let new = map (λ b. range_of b.vcpu b.first (length b.entries)) batches.new.items in
+    ensures some { let old =
+        map (λ b. range_of b.vcpu b.first (length b.entries)) batches.old.items in
+        let new =
+        map (λ b. range_of b.vcpu b.first (length b.entries)) batches.new.items in
         IfSome result (λ b. of_vcpu v old
         ≡ range_of b.vcpu b.first (length b.entries) ∷ of_vcpu v new) }
     ensures fewer { IfSome result (λ b. length batches.new.items < length batches.old.items) }
-    ensures others { let old = map (λ b. range_of b.vcpu b.first (length b.entries)) batches.old.items in
-        let new = map (λ b. range_of b.vcpu b.first (length b.entries)) batches.new.items in
+    ensures others { let old =
+        map (λ b. range_of b.vcpu b.first (length b.entries)) batches.old.items in
+        let new =
+        map (λ b. range_of b.vcpu b.first (length b.entries)) batches.new.items in
         (w : ℕ) → (w == v) ≡ false → of_vcpu w new ≡ of_vcpu w old }
-    ensures none { let old = map (λ b. range_of b.vcpu b.first (length b.entries)) batches.old.items in
+    ensures none { let old =
+        map (λ b. range_of b.vcpu b.first (length b.entries)) batches.old.items in
         result ≡ None → of_vcpu v old ≡ [] }
 {
     for i in 0..batches.len() {
@@ -63,14 +68,18 @@ pub fn deposit_of<N: Name, O: Outlet>(
     batches: &mut Vec<Batch<N>>,
     v: u32,
 ) -> Result<(), Memory>
-    ensures past { let old = map (λ b. range_of b.vcpu b.first (length b.entries)) batches.old.items in
+    ensures past { let old =
+        map (λ b. range_of b.vcpu b.first (length b.entries)) batches.old.items in
         OnOk result (bench.new.past ≡ deposited_all (of_vcpu v old) bench.old.past) }
-    ensures others { let old = map (λ b. range_of b.vcpu b.first (length b.entries)) batches.old.items in
-        let new = map (λ b. range_of b.vcpu b.first (length b.entries)) batches.new.items in
+    ensures others { let old =
+        map (λ b. range_of b.vcpu b.first (length b.entries)) batches.old.items in
+        let new =
+        map (λ b. range_of b.vcpu b.first (length b.entries)) batches.new.items in
         (w : ℕ) → (w == v) ≡ false → of_vcpu w new ≡ of_vcpu w old }
     ensures over { bench.new.over ≡ bench.old.over }
     ensures outlet { SameOutlet bench.old bench.new }
-    ensures part { let old = map (λ b. range_of b.vcpu b.first (length b.entries)) batches.old.items in
+    ensures part { let old =
+        map (λ b. range_of b.vcpu b.first (length b.entries)) batches.old.items in
         OnErr result (DepositsPart (of_vcpu v old) bench.old.past bench.new.past) }
 {
     while let Some(batch) = take_first(batches, v) {
@@ -86,12 +95,16 @@ pub fn deposit_all<N: Name, O: Outlet>(
     rings: &Rings<N>,
     batches: &mut Vec<Batch<N>>,
 ) -> Result<(), Memory>
-    ensures past { let old = map (λ b. range_of b.vcpu b.first (length b.entries)) batches.old.items in
-        OnOk result (bench.new.past ≡ deposited_all (in_order (vcpu_count N.guest) old) bench.old.past) }
+    ensures past { let old =
+        map (λ b. range_of b.vcpu b.first (length b.entries)) batches.old.items in
+        OnOk result
+        (bench.new.past ≡ deposited_all (in_order (vcpu_count N.guest) old) bench.old.past) }
     ensures over { bench.new.over ≡ bench.old.over }
     ensures outlet { SameOutlet bench.old bench.new }
-    ensures part { let old = map (λ b. range_of b.vcpu b.first (length b.entries)) batches.old.items in
-        OnErr result (DepositsPart (in_order (vcpu_count N.guest) old) bench.old.past bench.new.past) }
+    ensures part { let old =
+        map (λ b. range_of b.vcpu b.first (length b.entries)) batches.old.items in
+        OnErr result
+        (DepositsPart (in_order (vcpu_count N.guest) old) bench.old.past bench.new.past) }
 {
     bench.keeps();
     for v in 0..rings.vcpus() {

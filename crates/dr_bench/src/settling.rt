@@ -17,11 +17,13 @@ fn settle_from<N: Name, O: Outlet>(
     rings: &Rings<N>,
     batches: &mut Vec<Batch<N>>,
 ) -> Result<u32, Memory>
-    ensures settles { let ranges = map (λ b. range_of b.vcpu b.first (length b.entries)) batches.old.items in
+    ensures settles { let ranges =
+        map (λ b. range_of b.vcpu b.first (length b.entries)) batches.old.items in
         IfOk result (Settles N.guest ranges bench.old.past bench.new.past) }
     ensures over { bench.new.over ≡ bench.old.over }
     ensures outlet { SameOutlet bench.old bench.new }
-    ensures part { let ranges = map (λ b. range_of b.vcpu b.first (length b.entries)) batches.old.items in
+    ensures part { let ranges =
+        map (λ b. range_of b.vcpu b.first (length b.entries)) batches.old.items in
         OnErr result (SettlesPart N.guest ranges bench.old.past bench.new.past) }
 {
     deposit_all(bench, rings, batches)?;
@@ -40,11 +42,13 @@ pub fn settle<N: Name, O: Outlet>(
     rings: &Rings<N>,
     batches: BatchList<N>,
 ) -> Result<u32, Memory>
-    ensures settles { let ranges = map (λ b. range_of b.vcpu b.first (length b.entries)) batches in
+    ensures settles { let ranges =
+        map (λ b. range_of b.vcpu b.first (length b.entries)) batches in
         IfOk result (Settles N.guest ranges bench.old.past bench.new.past) }
     ensures over { bench.new.over ≡ bench.old.over }
     ensures outlet { SameOutlet bench.old bench.new }
-    ensures part { let ranges = map (λ b. range_of b.vcpu b.first (length b.entries)) batches in
+    ensures part { let ranges =
+        map (λ b. range_of b.vcpu b.first (length b.entries)) batches in
         OnErr result (SettlesPart N.guest ranges bench.old.past bench.new.past) }
 {
     let mut batches = batches.into_vec();
