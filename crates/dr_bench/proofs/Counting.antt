@@ -1,0 +1,124 @@
+-- How many pages are copied and how many entries are reset at most.
+use Rattle.std.proofs.Common.{◌≡◌, ℕ, zero, suc, ◌+◌, ◌*◌, ◌^◌, ◌-◌, ◌<◌, ◌≤◌, Bool, true, false, cond, List, [], ◌∷◌, is_some, length, refl, ap, sym, ◌∙◌, arith, add-one, slice_get}
+use Rattle.std.specs.Prelude.{◌==◌}
+use Rattle.std.proofs.lemmas.Bool.{false≢true}
+use Rattle.std.proofs.lemmas.List.{length-append}
+use Rattle.std.proofs.lemmas.List.Sums.{length-filter, count_by-le-length}
+use Rattle.dr_types.specs.declared.guest.Guest.{Guest}
+use Rattle.dr_types.specs.Pages.{page_count}
+use Rattle.dr_types.specs.Scripts.{op_count}
+use Rattle.dr_types.specs.Validity.{IsValid}
+use Rattle.dr_history.specs.declared.event.Event.{Event}
+use Rattle.dr_history.specs.declared.event.Event.TheVariants.{Read, Write, Paint, Local, Halted, Asked, Synced, Copied}
+use Rattle.dr_history.specs.Dirty.{dirty, dirty_pages}
+use Rattle.dr_history.specs.Entries.{opens, pushes, resets}
+use Rattle.dr_history.specs.Execution.{ops}
+use Rattle.dr_history.specs.Kinds.{is_copied, is_synced}
+use Rattle.dr_history.specs.Legality.{IsLegalSoFar}
+use Rattle.dr_history.specs.Lookback.{below, count, is_number}
+use Rattle.dr_history.specs.Rounds.{asks, unanswered, last_synced}
+use Rattle.dr_law.specs.Copies.{copies, pages_of}
+use Rattle.dr_law.specs.Length.{script_length}
+use Rattle.dr_law.specs.Order.{writes, last_opens_for}
+use Rattle.dr_law.proofs.Copies.{answers_exactly, copy_facts, next_copy}
+use Rattle.dr_law.proofs.Kept.{syncs_facts}
+use Rattle.dr_law.proofs.Length.{stays_in_script}
+use Rattle.dr_law.proofs.Limits.{script_in_total}
+use Rattle.dr_law.proofs.Order.{opened_in_order, reset_pushed}
+use Rattle.dr_law.proofs.Outstanding.{more, pushed_opened}
+use Rattle.dr_law.proofs.Switch.{number_some}
+use Rattle.dr_steps.proofs.Going.{asks_fit}
+
+below_length : (n : ℕ) → length (below n) ≡ n
+below_length zero = refl
+below_length (suc n) = length-append (below n) (n ∷ []) ∙ ap (λ m. m + 1) (below_length n) ∙ add-one n
+
+number_within : (xs : List ℕ) (n page : ℕ) → is_number page (slice_get xs n) ≡ true → n < length xs
+number_within [] n page h = cc
+number_within (x ∷ xs) zero page h = omega arith
+number_within (x ∷ xs) (suc n) page h = omega (arith, number_within xs n page h)
+
+-- an answer has no more pages than the guest
+answer_few : (guest : Guest) (past : List Event) → IsLegalSoFar guest past → length (pages_of (last_synced past)) ≤ page_count guest
+answer_few guest [] legal = omega arith
+answer_few guest (Synced r at pages ∷ past) legal =
+    let is : pages ≡ dirty_pages guest past = answers_exactly guest [] past r at pages legal in
+    let counted = length-filter (λ page. dirty page past) (below (page_count guest)) in
+    let le = count_by-le-length (λ page. dirty page past) (below (page_count guest)) in
+    omega (arith, ap length is, counted, le, below_length (page_count guest))
+answer_few guest (e ∷ past) legal = answer_few guest past legal.1
+
+-- no more of its pages are copied than it has
+copies_few : (guest : Guest) (past : List Event) → IsLegalSoFar guest past → copies past ≤ length (pages_of (last_synced past))
+copies_few guest [] legal = omega arith
+copies_few guest (Synced r at pages ∷ past) legal = omega arith
+copies_few guest (Copied r page ∷ past) legal =
+    let next : copies past < length (pages_of (last_synced past)) =
+    number_within (pages_of (last_synced past)) (copies past) page (sym (next_copy guest past page legal.1) ∙ copy_facts guest past r page legal.0) in
+    omega arith
+copies_few guest (e ∷ past) legal = copies_few guest past legal.1
+
+-- no more pages are copied than all answers have
+copied_sum : (guest : Guest) (past : List Event) → page_count guest ≤ 16384 → IsLegalSoFar guest past → count is_copied past + length (pages_of (last_synced past)) ≤ 16384 * count is_synced past + copies past
+copied_sum guest [] small legal = omega arith
+copied_sum guest (Synced r at pages ∷ past) small legal =
+    let old : count is_copied past + length (pages_of (last_synced past)) ≤ 16384 * count is_synced past + copies past = copied_sum guest past small legal.1 in
+    let few : copies past ≤ length (pages_of (last_synced past)) = copies_few guest past legal.1 in
+    let here : length pages ≤ page_count guest = answer_few guest (Synced r at pages ∷ past) legal in
+    omega arith
+copied_sum guest (Copied r page ∷ past) small legal = let old : count is_copied past + length (pages_of (last_synced past)) ≤ 16384 * count is_synced past + copies past = copied_sum guest past small legal.1 in omega arith
+copied_sum guest (e ∷ past) small legal = copied_sum guest past small legal.1
+
+owed : (some : Bool) (last n : ℕ) → some ≡ true → last + cond some 1 0 ≤ n → last < n
+owed true last n s h = omega arith
+owed false last n s h = absurd (false≢true s)
+
+-- no more rounds are answered than asked
+answers_asked : (guest : Guest) (past : List Event) → IsLegalSoFar guest past → count is_synced past + cond (is_some (unanswered past)) 1 0 ≤ asks past
+answers_asked guest [] legal = omega arith
+answers_asked guest (Asked r ∷ past) legal =
+    let old : count is_synced past + cond (is_some (unanswered past)) 1 0 ≤ asks past = answers_asked guest past legal.1 in
+    omega arith
+answers_asked guest (Synced r at pages ∷ past) legal =
+    let fewer : count is_synced past < asks past = owed (is_some (unanswered past)) (count is_synced past) (asks past) (number_some r (unanswered past) (syncs_facts guest past r at pages legal.0).asked) (answers_asked guest past legal.1) in
+    omega arith
+answers_asked guest (e ∷ past) legal = answers_asked guest past legal.1
+
+-- how many pages are copied has room in a page count
+pub copied_fits : (guest : Guest) (past : List Event) → IsValid guest → IsLegalSoFar guest past → count is_copied past < 2 ^ 32 - 1
+copied_fits guest past valid legal =
+    let sum : count is_copied past + length (pages_of (last_synced past)) ≤ 16384 * count is_synced past + copies past = copied_sum guest past valid.slots.pages legal in
+    let few : copies past ≤ length (pages_of (last_synced past)) = copies_few guest past legal in
+    let asked : count is_synced past + cond (is_some (unanswered past)) 1 0 ≤ asks past = answers_asked guest past legal in
+    let all : asks past ≤ 65 = asks_fit guest past valid legal in
+    omega arith
+
+both_more : (same : Bool) (a b : ℕ) → a ≤ b → cond same (a + 1) a ≤ cond same (b + 1) b
+both_more true a b h = omega arith
+both_more false a b h = h
+
+writes_ops : (past : List Event) (v : ℕ) → writes v past ≤ ops v past
+writes_ops [] v = omega arith
+writes_ops (Read w i address value ∷ past) v = more (w == v) (writes v past) (ops v past) (writes_ops past v)
+writes_ops (Write w i address len value ∷ past) v = both_more (w == v) (writes v past) (ops v past) (writes_ops past v)
+writes_ops (Paint w i page byte ∷ past) v = both_more (w == v) (writes v past) (ops v past) (writes_ops past v)
+writes_ops (Local w i ∷ past) v = more (w == v) (writes v past) (ops v past) (writes_ops past v)
+writes_ops (Halted w i ∷ past) v = more (w == v) (writes v past) (ops v past) (writes_ops past v)
+writes_ops (e ∷ past) v = writes_ops past v
+
+one_at_most : (b : Bool) → cond b 1 0 ≤ 1
+one_at_most true = omega arith
+one_at_most false = omega arith
+
+-- a vCPU opens no more entries than a valid guest has ops, and one
+pub resets_few : (guest : Guest) (past : List Event) (v : ℕ) → IsValid guest → IsLegalSoFar guest past → resets v past ≤ 200001
+resets_few guest past v valid legal =
+    let a : resets v past ≤ pushes v past = reset_pushed guest past v legal in
+    let b : pushes v past ≤ opens v past = pushed_opened guest past v legal in
+    let c : opens v past ≤ writes v past + cond (last_opens_for v past) 1 0 = opened_in_order guest past v legal in
+    let d : writes v past ≤ ops v past = writes_ops past v in
+    let e : ops v past ≤ script_length guest v = stays_in_script guest past v legal in
+    let f : script_length guest v ≤ op_count guest.scripts = script_in_total guest.scripts v in
+    let g : op_count guest.scripts ≤ 200000 = valid.ops in
+    let h : cond (last_opens_for v past) 1 0 ≤ 1 = one_at_most (last_opens_for v past) in
+    omega arith

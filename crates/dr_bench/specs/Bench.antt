@@ -1,0 +1,76 @@
+-- What a bench shows and keeps.
+use Rattle.std.specs.Prelude.{◌≡◌, ℕ, ◌≤◌, Bool, true, false, List, take}
+use Rattle.dr_types.specs.declared.guest.Guest.{Guest}
+use Rattle.dr_types.specs.declared.port.Port.TheVariants.{Stream}
+use Rattle.dr_types.specs.Ports.{Ports, put_at, Rose}
+use Rattle.dr_history.specs.declared.event.Event.{Event}
+use Rattle.dr_history.specs.declared.event.Event.TheVariants.{Start, Synced, Copied, Stopped, Switched}
+use Rattle.dr_history.specs.Lookback.{count}
+use Rattle.dr_history.specs.Kinds.{is_copied}
+use Rattle.dr_history.specs.Stream.{stream_of}
+use Rattle.dr_history.specs.Vcpus.{stopped}
+use Rattle.dr_ring.specs.Seats.{KernelView}
+use Rattle.dr_machine.specs.States as machine
+use Rattle.dr_stream.specs.Sending.{Sending}
+
+-- what has happened, the newest event first, the kernel seat of each vCPU, whether the run was given up, whether a
+-- put failed, what the outlet tells of the ports, and its count of faults
+pub record BenchState : Type 0 where
+  pub past : List Event
+  pub seats : List KernelView
+  pub over : Bool
+  pub failed : Bool
+  pub told : Ports
+  pub faults : ℕ
+
+-- a bench of this machine and this sender
+abbrev pub bench_of : machine.State → Sending → Bool → BenchState
+bench_of m s failed = record {
+  past = m.past;
+  seats = m.seats;
+  over = m.over;
+  failed = failed;
+  told = s.told;
+  faults = s.faults;
+}
+
+-- from these ports on the Stream port grew by a first part of these bytes
+pub record IsPartOf (ports : Ports) (bytes : List ℕ) (told : Ports) : Type 0 where
+  pub length : ℕ
+  pub told_is : told ≡ put_at Stream (take length bytes) ports
+
+-- What a bench keeps that began with these ports and this count. While no put failed, the Stream port has grown by
+-- the stream of what happened; after that by a first part of it, the count has risen, and the run was given up. The
+-- other ports are what they were.
+pub record BenchKeeps (guest : Guest) (ports : Ports) (before : ℕ) (it : BenchState) : Type 0 where
+  pub whole : it.failed ≡ false → it.told ≡ put_at Stream (stream_of guest it.past) ports
+  pub part : it.failed ≡ true → IsPartOf ports (stream_of guest it.past) it.told
+  pub later : before ≤ it.faults
+  pub risen : it.failed ≡ true → Rose before it.faults
+  pub stopped : it.failed ≡ true → it.over ≡ true
+
+-- nothing was put
+pub record SameOutlet (old new : BenchState) : Type 0 where
+  pub failed : new.failed ≡ old.failed
+  pub told : new.told ≡ old.told
+  pub faults : new.faults ≡ old.faults
+
+-- so many pages were put, and whether the guest is stopped
+pub record IsTracked (past : List Event) (pages : ℕ) (is_stopped : Bool) : Type 0 where
+  pub copied : pages ≡ count is_copied past
+  pub stop : is_stopped ≡ stopped past
+
+-- nothing of the event is on the stream, and it stops nothing
+abbrev pub IsSilent : Event → Type 0
+IsSilent (Start at) = ⊥
+IsSilent (Synced r at pages) = ⊥
+IsSilent (Copied r page) = ⊥
+IsSilent Stopped = ⊥
+IsSilent Switched = ⊥
+IsSilent e = Unit {0}
+
+-- what happened since put nothing on the stream and stopped nothing
+pub record IsQuiet (guest : Guest) (old new : List Event) : Type 0 where
+  pub stream : stream_of guest new ≡ stream_of guest old
+  pub copied : count is_copied new ≡ count is_copied old
+  pub stop : stopped new ≡ stopped old

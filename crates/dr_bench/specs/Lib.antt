@@ -1,0 +1,3 @@
+pub mod Bench
+pub mod Settled
+pub mod Stepped

@@ -1,0 +1,340 @@
+ghost use Rattle.std.specs.Prelude.{◌≡◌, ◌<◌, ◌≤◌, ◌+◌, ◌-◌, ◌^◌, ◌∷◌, ℕ, [], true, false, length, nat_lt, slice_get, Ok, Err, Some, None, IfOk, IfErr, OnOk, OnErr, IfSome};
+ghost use Rattle.std.specs.List.{list_any};
+ghost use Rattle.dr_types.specs.Pages.{page_count};
+ghost use Rattle.dr_types.specs.Ports.{Rose};
+ghost use Rattle.dr_types.specs.Scripts.{operation, vcpu_count};
+ghost use Rattle.dr_types.specs.Validity.{IsValid};
+ghost use Rattle.dr_history.specs.declared.event.Event.{Event};
+ghost use Rattle.dr_history.specs.Entries.{resets};
+ghost use Rattle.dr_history.specs.Execution.{ops};
+ghost use Rattle.dr_history.specs.Kinds.{is_copied};
+ghost use Rattle.dr_history.specs.Legality.{IsLegal};
+ghost use Rattle.dr_history.specs.Lookback.{count};
+ghost use Rattle.dr_history.specs.Memory.{page_bytes};
+ghost use Rattle.dr_history.specs.Rules.{deposits_entry};
+ghost use Rattle.dr_history.specs.Vcpus.{in_guest};
+ghost use Rattle.dr_machine.specs.Tied.{AreRingsFor};
+ghost use Rattle.dr_reaps.specs.Deposits.{first_twice, next_deposited, HasGap};
+ghost use Rattle.dr_ring.specs.Seats.{kernel_note};
+ghost use Rattle.dr_rings.specs.Seated.{HasAt};
+ghost use Rattle.dr_seats.specs.Seats.{AreSeats};
+ghost use Rattle.dr_turns.specs.Buffers.{all_pushed};
+ghost use Rattle.dr_turns.specs.Due.{advanced, run_end, some_closing};
+ghost use Rattle.dr_turns.specs.Turns.{refusal, op_step, after_op, exit_reason, after_exit, all_out};
+ghost use Rattle.dr_bench.specs.Bench.{BenchKeeps, SameOutlet};
+ghost use Rattle.dr_bench.specs.Stepped.{StepFails};
+
+use crate::steps::{opens_at, put_step, stopped_after};
+use dr_bytes::PageBytes;
+use dr_history::History;
+use dr_io::{Outlet, PutTurn};
+use dr_machine::{DepositFault, Machine};
+use dr_ring::{Name, Note};
+use dr_rings::{Batch, Rings};
+use dr_slots::page_count;
+use dr_stream::Sender;
+use dr_turns::{Advance, RunEnd, Turn};
+use dr_types::{Guest, Memory, Why};
+use std::marker::Model;
+
+/// Why a step of the migrator failed.
+#[derive(Clone, Copy, Debug, PartialEq, Eq)]
+pub enum BenchFault {
+    /// A put of the stream failed.
+    Sink,
+    /// An allocation was refused.
+    Memory,
+}
+
+impl From<Memory> for BenchFault {
+    ghost use Rattle.std.specs.Prelude.{◌≡◌};
+    ghost use Rattle.dr_bench.specs.declared.bench.BenchFault.TheVariants.{Memory};
+
+    ghost from_gives = { λ _ fault. fault ≡ Memory };
+
+    fn from(_error: Memory) -> BenchFault {
+        BenchFault::Memory
+    }
+}
+
+/// A machine and the outlet that its stream goes to. Its type keeps that the outlet's Stream port has
+/// grown by the stream of what happened, or by a first part of it after a failed put, and that its
+/// other ports are what they were. Contracts see the machine, the outlet, and whether a put failed.
+#[derive(Drop)]
+pub struct Bench<N: Name, O: Outlet> {
+    machine: Machine<N>,
+    sender: Sender<O>,
+    copied: PageBytes,
+    stopped: bool,
+    failed: bool,
+}
+
+impl<N: Name, O: Outlet> Model for Bench<N, O> {
+    ghost use Rattle.dr_bench.specs.Bench.{BenchState, BenchKeeps, IsTracked, bench_of};
+
+    ghost Value = { BenchState };
+
+    ghost view = { λ b. bench_of b.machine b.sender b.failed };
+
+    ghost invariant = { λ b.
+        BenchKeeps N.guest N.ports N.faults (bench_of b.machine b.sender b.failed)
+        × IsTracked b.machine.past b.sender.pages b.stopped };
+}
+
+impl<N: Name, O: Outlet> Bench<N, O> {
+    /// A bench of a machine of which nothing has happened, and an outlet that is as the name says.
+    /// The page is room for the bytes of copies.
+    #[tactic(auto, using(crate::proofs::Keeping::begins))]
+    pub fn new(machine: Machine<N>, out: O, page: PageBytes) -> Bench<N, O>
+        requires past { machine.past ≡ [] }
+        requires ports { O.told out ≡ N.ports }
+        requires faults { O.faults out ≡ N.faults }
+        ensures past { result.past ≡ machine.past }
+        ensures seats { result.seats ≡ machine.seats }
+        ensures over { result.over ≡ machine.over }
+        ensures failed { result.failed ≡ false }
+        ensures told { result.told ≡ O.told out }
+        ensures count { result.faults ≡ O.faults out }
+    {
+        Bench {
+            machine,
+            sender: Sender::new(out),
+            copied: page,
+            stopped: false,
+            failed: false,
+        }
+    }
+
+    /// The machine and the outlet, with all that the type keeps.
+    pub fn into_parts(self) -> (Machine<N>, O)
+        ensures past { result.0.past ≡ self.past }
+        ensures seats { result.0.seats ≡ self.seats }
+        ensures over { result.0.over ≡ self.over }
+        ensures told { O.told result.1 ≡ self.told }
+        ensures count { O.faults result.1 ≡ self.faults }
+        ensures keeps { BenchKeeps N.guest N.ports N.faults self }
+        ensures legal { IsLegal N.guest self.past }
+    {
+        self.machine.keeps();
+        (self.machine, self.sender.into_outlet())
+    }
+
+    /// What the type of a bench keeps.
+    pub fn keeps(&self)
+        ensures keeps { BenchKeeps N.guest N.ports N.faults self.now }
+        ensures legal { IsLegal N.guest self.now.past }
+        ensures seats { AreSeats N.guest self.now.past self.now.seats }
+        ensures rings { AreRingsFor N.guest N.rings }
+    {
+        self.machine.keeps();
+    }
+
+    /// A put failed before.
+    pub fn failed(&self) -> bool
+        ensures failed { result ≡ self.now.failed }
+        ensures risen { result ≡ true → Rose N.faults self.now.faults }
+        ensures over { result ≡ true → self.now.over ≡ true }
+    {
+        self.failed
+    }
+
+    /// Executes a vCPU's next op, or tells why not.
+    pub fn op(&mut self, rings: &Rings<N>, v: u32) -> Result<Turn, Memory>
+        requires { v < vcpu_count N.guest }
+        ensures refused { let why = refusal N.guest self.old.over v self.old.past in
+            IfSome why (λ turn. result ≡ Ok turn) }
+        ensures stays { let why = refusal N.guest self.old.over v self.old.past in
+            IfSome why (λ turn. self.new ≡ self.old) }
+        ensures done { let next = operation N.guest v (ops v self.old.past) in
+            refusal N.guest self.old.over v self.old.past ≡ None
+            → IfOk result (λ turn. turn ≡ Turn.Done (op_step next)) }
+        ensures appended { refusal N.guest self.old.over v self.old.past ≡ None
+            → OnOk result (self.new.past ≡ after_op N.guest v self.old.past) }
+        ensures over { self.new.over ≡ self.old.over }
+        ensures err { OnErr result (self.new ≡ self.old) }
+        ensures outlet { SameOutlet self.old self.new }
+    {
+        self.machine.op(rings, v)
+    }
+
+    /// A vCPU leaves the guest, behind its whole buffer; `None` where it isn't in the guest.
+    pub fn exit(&mut self, rings: &Rings<N>, v: u32) -> Result<Option<Why>, Memory>
+        requires { v < vcpu_count N.guest }
+        ensures outside { in_guest v self.old.past ≡ false → result ≡ Ok None }
+        ensures stays { in_guest v self.old.past ≡ false → self.new ≡ self.old }
+        ensures done { in_guest v self.old.past ≡ true
+            → IfOk result (λ why. why ≡ Some (exit_reason N.guest v (all_pushed v self.old.past))) }
+        ensures appended { in_guest v self.old.past ≡ true
+            → OnOk result (self.new.past ≡ after_exit N.guest v self.old.past) }
+        ensures over { self.new.over ≡ self.old.over }
+        ensures err { OnErr result (self.new ≡ self.old) }
+        ensures outlet { SameOutlet self.old self.new }
+    {
+        self.machine.exit(rings, v)
+    }
+
+    /// A copy of what v's kernel seat knows.
+    pub fn note(&mut self, rings: &Rings<N>, v: u32) -> Note
+        requires { v < vcpu_count N.guest }
+        ensures stays { self.new ≡ self.old }
+        ensures note { HasAt self.old.seats v (λ s. result ≡ kernel_note s) }
+        ensures of_kernel { result.by_kernel ≡ true }
+        ensures named { slice_get N.rings v ≡ Some result.ring }
+    {
+        self.machine.note(rings, v)
+    }
+
+    /// Deposits a batch, or hands it back where an entry of it was deposited before or there is no
+    /// memory. Batches of one vCPU may come in any order.
+    pub fn deposit(&mut self, rings: &Rings<N>, batch: Batch<N>) -> Result<(), DepositFault<N>>
+        requires { 0 < length batch.entries }
+        ensures twice { let to = batch.first + length batch.entries in (k : ℕ)
+            → first_twice batch.vcpu batch.first self.old.past to ≡ Some k
+            → result ≡ Err (DepositFault.Twice batch k) }
+        ensures fault { let to = batch.first + length batch.entries in
+            first_twice batch.vcpu batch.first self.old.past to ≡ None
+            → IfErr result (λ fault. fault ≡ DepositFault.Memory batch) }
+        ensures appended { let to = batch.first + length batch.entries in
+            OnOk result (self.new.past ≡ Event.Deposited batch.vcpu batch.first to ∷ self.old.past) }
+        ensures over { self.new.over ≡ self.old.over }
+        ensures err { OnErr result (self.new ≡ self.old) }
+        ensures outlet { SameOutlet self.old self.new }
+    {
+        self.machine.deposit(rings, batch)
+    }
+
+    /// How many of v's entries are deposited, where these are its first; `None` where one isn't and a
+    /// later one is.
+    pub fn deposited(&self, v: u32) -> Option<u64>
+        requires { v < vcpu_count N.guest }
+        ensures some { IfSome result (λ n. (k : ℕ)
+            → list_any (deposits_entry v k) self.now.past ≡ nat_lt k n) }
+        ensures none { result ≡ None → HasGap v self.now.past }
+    {
+        self.machine.deposited(v)
+    }
+
+    /// Resets v's next entry, where that is deposited, and answers how many entries it reset.
+    pub fn reset_turn(&mut self, rings: &Rings<N>, v: u32) -> Result<u32, Memory>
+        requires { v < vcpu_count N.guest }
+        ensures none { next_deposited v self.old.past ≡ false → result ≡ Ok 0 }
+        ensures stays { next_deposited v self.old.past ≡ false → self.new ≡ self.old }
+        ensures one { next_deposited v self.old.past ≡ true → IfOk result (λ n. n ≡ 1) }
+        ensures appended { let reset = Event.Reset v (resets v self.old.past) in
+            next_deposited v self.old.past ≡ true
+            → OnOk result (self.new.past ≡ reset ∷ self.old.past) }
+        ensures over { self.new.over ≡ self.old.over }
+        ensures err { OnErr result (self.new ≡ self.old) }
+        ensures outlet { SameOutlet self.old self.new }
+    {
+        self.machine.reset_turn(rings, v)
+    }
+
+    /// Drops all permissions that vCPUs have, where a page was reset since the last flush. Answers
+    /// whether there was one.
+    pub fn flush(&mut self) -> Result<bool, Memory>
+        ensures none { some_closing N.guest self.old.past ≡ false → result ≡ Ok false }
+        ensures stays { some_closing N.guest self.old.past ≡ false → self.new ≡ self.old }
+        ensures done { some_closing N.guest self.old.past ≡ true → IfOk result (λ b. b ≡ true) }
+        ensures appended { some_closing N.guest self.old.past ≡ true
+            → OnOk result (self.new.past ≡ Event.Flushed ∷ self.old.past) }
+        ensures over { self.new.over ≡ self.old.over }
+        ensures err { OnErr result (self.new ≡ self.old) }
+        ensures outlet { SameOutlet self.old self.new }
+    {
+        self.machine.flush()
+    }
+
+    /// Does the step of the migrator that is due, and puts its record in the same turn. Where that
+    /// put fails, what the step appended stands, and the run is given up.
+    pub fn advance(&mut self, now: u64) -> Result<Advance, BenchFault>
+        requires { self.old.failed ≡ false }
+        ensures answer { IfOk result (λ a. a ≡ (advanced N.guest now self.old.past).0) }
+        ensures appended { OnOk result (self.new.past ≡ (advanced N.guest now self.old.past).1) }
+        ensures over { OnOk result (self.new.over ≡ self.old.over) }
+        ensures failed { OnOk result (self.new.failed ≡ false) }
+        ensures seats { self.new.seats ≡ self.old.seats }
+        ensures later { self.old.faults ≤ self.new.faults }
+        ensures fault { IfErr result (StepFails N.guest now self.old self.new) }
+    {
+        self.has_room();
+        let pages = page_count(self.machine.guest());
+        let step = self.machine.advance(now, &mut self.copied)?;
+        let opens = opens_at(self.machine.guest(), self.stopped, step);
+        self.stopped = stopped_after(self.stopped, step);
+        match put_step(&mut self.sender, step, opens, pages, &self.copied) {
+            PutTurn::Done => Ok(step),
+            PutTurn::Failed => {
+                self.failed = true;
+                self.machine.give_up();
+                Err(BenchFault::Sink)
+            }
+        }
+    }
+
+    /// One page more may be put, and the guest's pages have room in their count.
+    #[tactic(auto, using(crate::proofs::Counting::copied_fits))]
+    fn has_room(&self)
+        ensures few { count is_copied self.now.past < 2 ^ 32 - 1 }
+        ensures pages { page_count N.guest < 2 ^ 32 }
+    {
+        let _guest = self.machine.guest();
+        self.machine.keeps();
+    }
+
+    /// Ends the run: from now on no vCPU executes.
+    pub fn give_up(&mut self)
+        ensures past { self.new.past ≡ self.old.past }
+        ensures seats { self.new.seats ≡ self.old.seats }
+        ensures over { self.new.over ≡ true }
+        ensures outlet { SameOutlet self.old self.new }
+    {
+        self.machine.give_up();
+    }
+
+    /// The run was given up.
+    pub fn over(&self) -> bool
+        ensures { result ≡ self.now.over }
+    {
+        self.machine.over()
+    }
+
+    /// The guest is stopped, or every vCPU has halted.
+    pub fn all_out(&self) -> bool
+        ensures { result ≡ all_out N.guest self.now.past }
+    {
+        self.machine.all_out()
+    }
+
+    /// Where the run stands.
+    pub fn end(&self) -> RunEnd
+        ensures { result ≡ run_end N.guest self.now.past }
+    {
+        self.machine.end()
+    }
+
+    /// The guest that the name fixes.
+    pub fn guest(&self) -> &Guest
+        ensures is { result.now ≡ N.guest }
+        ensures valid { IsValid result.now }
+    {
+        self.machine.guest()
+    }
+
+    /// What has happened, which is legal.
+    pub fn history(&self) -> &History
+        ensures past { result.now.past ≡ self.now.past }
+        ensures legal { IsLegal N.guest result.now.past }
+    {
+        self.machine.history()
+    }
+
+    /// The bytes of a page.
+    pub fn page(&self, page: u32) -> &[u8]
+        requires { page < page_count N.guest }
+        ensures bytes { result.now ≡ page_bytes N.guest page self.now.past }
+        ensures len { length result.now ≡ 4096 }
+    {
+        self.machine.page(page)
+    }
+}
