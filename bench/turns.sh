@@ -8,13 +8,10 @@ program="${1:-$here/../crates/dr_turn_speed/out/dr_turn_speed}"
 runs="${2:-15}"
 vcpus=8
 pages=16384
-folder="$(mktemp -d /tmp/bench.XXXXXX)"
-trap 'rm -rf "$folder"' EXIT
+script=turns.sh
+status=2
+. "$here/measure.sh"
 
-fail() {
-    echo "bench/turns.sh: $*" >&2
-    exit 1
-}
 # A guest with this log buffer. Each vCPU goes so often over 6,249 pages, each from a page of its own on, and
 # stores a byte in each; some additions and a halt make the number of its ops 6,250 times that.
 guest() {
@@ -30,57 +27,26 @@ guest() {
         }
     }'
 }
-# The count that the last run printed behind a name.
-count() {
-    sed -n "s/^$1: //p" "$folder/counts"
-}
-# At least so many of a name in the last run.
-at_least() {
-    local found
-    found="$(count "$2")"
-    [ -n "$found" ] && [ "$found" -ge "$1" ] || fail "$guest: $2: ${found:-no line}, and $1 or more are wanted"
-}
 # What each guest has: its ops are all executed, and what is pushed is reset.
 check() {
     local events name
-    [ "$(count 'ops executed')" = "$1" ] || fail "$guest: $(count 'ops executed') ops executed, and $1 are wanted"
+    [ "$(count 'ops executed')" = "$1" ] || fail "$input: $(count 'ops executed') ops executed, and $1 are wanted"
     events="$(count events)"
     for name in 'entries opened' 'entries pushed' 'entries reset'; do
         at_least $(((events + 19) / 20)) "$name"
     done
-    [ "$(count 'entries opened')" = "$(count 'entries pushed')" ] || fail "$guest: not all that is opened is pushed"
-    [ "$(count 'entries pushed')" = "$(count 'entries reset')" ] || fail "$guest: not all that is pushed is reset"
+    [ "$(count 'entries opened')" = "$(count 'entries pushed')" ] || fail "$input: not all that is opened is pushed"
+    [ "$(count 'entries pushed')" = "$(count 'entries reset')" ] || fail "$input: not all that is pushed is reset"
     at_least "$vcpus" flushes
     at_least $((vcpus * 2)) exits
-}
-# The milliseconds of the whole process by the clock, and those of the processor.
-took() {
-    local TIMEFORMAT='%3R %3U %3S' real user system
-    { time "$program" < "$folder/guest" > "$folder/counts"; } 2> "$folder/times"
-    read -r real user system < "$folder/times"
-    echo "$((10#${real/./})) $((10#${user/./} + 10#${system/./}))"
-}
-# The best of the runs of a guest, by the clock and of the processor.
-best() {
-    local clock= processor= now used
-    for ((run = 0; run < runs; run++)); do
-        read -r now used < <(took)
-        if [ -z "$clock" ] || [ "$now" -lt "$clock" ]; then clock=$now; fi
-        if [ -z "$processor" ] || [ "$used" -lt "$processor" ]; then processor=$used; fi
-    done
-    echo "$clock $processor"
-}
-# A ratio with two places.
-ratio() {
-    printf '%d.%02d' $(($1 / $2)) $(($1 * 100 / $2 % 100))
 }
 # 100,000 ops and 200,000, with this log buffer: the second line has the ratio to the times of the first.
 measure() {
     local buffer="$1" times ops clock processor events last_clock= last_processor=
     for times in 2 4; do
         ops=$((times * 6250 * vcpus))
-        guest="buffer $buffer, $ops ops"
-        guest "$buffer" "$times" > "$folder/guest"
+        input="buffer $buffer, $ops ops"
+        guest "$buffer" "$times" > "$folder/input"
         read -r clock processor < <(best)
         check "$ops"
         events="$(count events)"
@@ -91,18 +57,11 @@ measure() {
         if [ -n "$last_processor" ]; then printf ', %s times' "$(ratio "$processor" "$last_processor")"; fi
         printf '\n'
         if [ -n "$last_processor" ] && [ $((processor * 10)) -gt $((last_processor * 23)) ]; then
-            fail "$guest: more than 2.3 times the processor's time of half the ops"
+            fail "$input: more than 2.3 times the processor's time of half the ops"
         fi
         last_clock=$clock
         last_processor=$processor
     done
-}
-# What is no guest file is refused by one line and status 2.
-refuses() {
-    local status=0
-    printf -- "$1" | "$program" > "$folder/counts" 2> "$folder/error" || status=$?
-    [ "$status" = 2 ] && [ ! -s "$folder/counts" ] && [ "$(wc -l < "$folder/error")" = 1 ] ||
-        fail "the input '$1' is not refused as it should be"
 }
 
 for text in '' '\n' 'dirtyguest 2\n' 'dirtyguest 1\n' 'dirtyguest 1\nring 5\n' '100000\n'; do
