@@ -1,42 +1,38 @@
 //! The bytes of a page.
 #![tactic(auto)]
 
-ghost use Rattle.std.specs.Prelude.{◌≡◌, ◌+◌, ◌<◌, ◌≤◌, length, take, slice_index, IfOk};
+ghost use Rattle.std.specs.Prelude.{◌≡◌, ◌+◌, ◌<◌, ◌≤◌, length, take, slice_index};
 ghost use Rattle.std.specs.Int.{w64, to_le_bytes};
 ghost use Rattle.dr_history.specs.Memory.{filled, overwritten, loaded};
 
-use dr_types::Memory;
-use std::alloc::Global;
 use std::marker::Model;
 
 /// A page of 4,096 bytes. Contracts see it as their list.
 #[derive(Drop)]
 pub struct PageBytes {
-    bytes: Vec<u8>,
+    bytes: [u8; 4096],
 }
 
 impl Model for PageBytes {
-    ghost use Rattle.std.specs.Prelude.{◌≡◌, List, ℕ, vec_len};
+    ghost use Rattle.std.specs.Prelude.{◌≡◌, List, ℕ, length};
     ghost use Rattle.std.specs.Coded.{coded_list, coded_ℕ};
 
     ghost Value = { List ℕ };
 
     ghost coded = { coded_list coded_ℕ };
 
-    ghost view = { λ page. page.bytes.items };
+    ghost view = { λ page. page.bytes };
 
-    ghost invariant = { λ page. vec_len page.bytes ≡ 4096 };
+    ghost invariant = { λ page. length page.bytes ≡ 4096 };
 }
 
 impl PageBytes {
     /// A page of zeros.
     #[tactic(auto, unfolding(dr_history::specs::Memory::filled))]
-    pub fn new(alloc: Global) -> Result<PageBytes, Memory>
-        ensures { IfOk result (λ page. page ≡ filled 0) }
+    pub fn new() -> PageBytes
+        ensures { result ≡ filled 0 }
     {
-        Ok(PageBytes {
-            bytes: vec![in alloc; 0; 4096]?,
-        })
+        PageBytes { bytes: [0; 4096] }
     }
 
     /// The bytes.
@@ -44,7 +40,7 @@ impl PageBytes {
         ensures is { result.now ≡ self.now }
         ensures len { length result.now ≡ 4096 }
     {
-        self.bytes.as_slice()
+        &self.bytes
     }
 
     /// The byte at a place, and zero past the end.
@@ -77,7 +73,7 @@ impl PageBytes {
     {
         let word = value.to_le_bytes();
         let len = (len as usize).min(8);
-        overwrite(self.bytes.as_mut_slice(), at, &word[..len]);
+        overwrite(&mut self.bytes, at, &word[..len]);
     }
 
     /// Takes the bytes of another page.
@@ -92,7 +88,7 @@ impl PageBytes {
     pub fn fill(&mut self, byte: u8)
         ensures { self.new ≡ filled byte }
     {
-        self.bytes.fill(byte);
+        self.bytes = [byte; 4096];
     }
 }
 

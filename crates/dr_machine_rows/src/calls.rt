@@ -91,12 +91,12 @@ fn all_plain<N: Name>(
 }
 
 /// So many turns of vCPU 0 execute plain ops, and logging starts at 7.
-fn starts<N: Name>(alloc: Global, rig: &mut Rig<N>, early: u32) -> Result<bool, Memory>
+fn starts<N: Name>(rig: &mut Rig<N>, early: u32) -> Result<bool, Memory>
     requires vcpu { 0 < vcpu_count N.guest }
     requires fresh { started rig.old.machine.past ≡ false }
 {
     let plain = all_plain(&mut rig.machine, &rig.rings, early)?;
-    let mut into = PageBytes::new(alloc)?;
+    let mut into = PageBytes::new();
     let begun = rig.machine.advance(7, &mut into)? == Advance::Started;
     Ok(plain && begun)
 }
@@ -130,7 +130,7 @@ fn run<N: Name>(
         return Ok(false);
     }
     rig.machine.keeps();
-    let begun = starts(alloc, rig, early)?;
+    let begun = starts(rig, early)?;
     let answered = all_answer(rig, calls)?;
     let ended = ends_with(alloc, rig, lines)?;
     Ok(begun && answered && ended)

@@ -3,6 +3,7 @@ ghost use Rattle.std.specs.Int.{w64, to_le_bytes};
 ghost use Rattle.dr_history.specs.Memory.{filled, overwritten, loaded};
 ghost use Rattle.dr_memory.specs.Stores.{has_room, bytes_of, with_bytes, with_room, held_bytes};
 
+use crate::own_page::OwnPage;
 use dr_bytes::PageBytes;
 use dr_types::Memory;
 use std::alloc::Global;
@@ -13,7 +14,7 @@ use std::marker::Model;
 #[derive(Drop)]
 pub struct PageStore {
     alloc: Global,
-    pages: Vec<Option<PageBytes>>,
+    pages: Vec<Option<OwnPage>>,
     zeros: PageBytes,
 }
 
@@ -44,7 +45,7 @@ impl PageStore {
         Ok(PageStore {
             alloc,
             pages,
-            zeros: PageBytes::new(alloc)?,
+            zeros: PageBytes::new(),
         })
     }
 
@@ -55,7 +56,7 @@ impl PageStore {
         Ok(PageStore {
             alloc: self.alloc,
             pages: all_copied(self.alloc, self.pages.as_slice())?,
-            zeros: PageBytes::new(self.alloc)?,
+            zeros: PageBytes::new(),
         })
     }
 
@@ -72,7 +73,7 @@ impl PageStore {
         ensures { result.now ≡ bytes_of page self.now }
     {
         match &self.pages[page as usize] {
-            Some(bytes) => bytes,
+            Some(bytes) => bytes.as_page(),
             None => &self.zeros,
         }
     }
@@ -110,7 +111,7 @@ impl PageStore {
         ensures err { OnErr result (self.new ≡ self.old) }
     {
         if !self.has_room(page) {
-            let bytes = PageBytes::new(self.alloc)?;
+            let bytes = OwnPage::new(self.alloc)?;
             give(&mut self.pages[page as usize], bytes);
         }
         Ok(())
@@ -142,28 +143,24 @@ impl PageStore {
 }
 
 /// Gives a page its own memory.
-fn give(own: &mut Option<PageBytes>, bytes: PageBytes)
+fn give(own: &mut Option<OwnPage>, bytes: OwnPage)
     ensures { own.new ≡ Some bytes }
 {
     *own = Some(bytes);
 }
 
 /// A copy of a page's own memory, where it has some.
-fn copied(alloc: Global, own: &Option<PageBytes>) -> Result<Option<PageBytes>, Memory>
+fn copied(alloc: Global, own: &Option<OwnPage>) -> Result<Option<OwnPage>, Memory>
     ensures { IfOk result (λ copy. copy ≡ own.now) }
 {
     match own {
         None => Ok(None),
-        Some(bytes) => {
-            let mut copy = PageBytes::new(alloc)?;
-            copy.copy_from(bytes);
-            Ok(Some(copy))
-        }
+        Some(bytes) => Ok(Some(bytes.copied(alloc)?)),
     }
 }
 
 /// Copies of the pages' own memory.
-fn all_copied(alloc: Global, pages: &[Option<PageBytes>]) -> Result<Vec<Option<PageBytes>>, Memory>
+fn all_copied(alloc: Global, pages: &[Option<OwnPage>]) -> Result<Vec<Option<OwnPage>>, Memory>
     ensures { IfOk result (λ copies. copies.items ≡ pages.now) }
 {
     let mut copies = Vec::with_capacity(alloc, pages.len())?;

@@ -140,7 +140,7 @@ pub fn deposits_reversed<N: Name>(
     requires rings { 0 < length N.rings }
     requires fresh { started machine.old.past ≡ false }
 {
-    let begun = starts(alloc, machine, rings, 13)?;
+    let begun = starts(machine, rings, 13)?;
     let first = writes(alloc, machine, rings, collector, batches)?;
     let second = writes(alloc, machine, rings, collector, batches)?;
     let reset = resets_in_order(machine, rings, batches)?;
@@ -178,7 +178,7 @@ pub fn opens_again<N: Name>(
     requires rings { 0 < length N.rings }
     requires fresh { started machine.old.past ≡ false }
 {
-    let begun = starts(alloc, machine, rings, 1)?;
+    let begun = starts(machine, rings, 1)?;
     let twice = all_plain(machine, rings, 2)?;
     let reaped = reaps_one(alloc, machine, rings, collector, batches)?;
     let again = all_plain(machine, rings, 1)?;

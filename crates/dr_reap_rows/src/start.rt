@@ -8,7 +8,6 @@ use dr_machine_law::op;
 use dr_ring::Name;
 use dr_rings::Rings;
 use dr_types::{Memory, Step};
-use std::alloc::Global;
 
 /// So many turns of vCPU 0 execute plain ops.
 pub fn all_plain<N: Name>(
@@ -29,7 +28,6 @@ pub fn all_plain<N: Name>(
 
 /// So many turns of vCPU 0 execute plain ops, and logging starts at 7.
 pub fn starts<N: Name>(
-    alloc: Global,
     machine: &mut Machine<N>,
     rings: &Rings<N>,
     early: u32,
@@ -38,7 +36,7 @@ pub fn starts<N: Name>(
     requires fresh { started machine.old.past ≡ false }
 {
     let plain = all_plain(machine, rings, early)?;
-    let mut into = PageBytes::new(alloc)?;
+    let mut into = PageBytes::new();
     let begun = machine.advance(7, &mut into)? == Advance::Started;
     Ok(plain && begun)
 }

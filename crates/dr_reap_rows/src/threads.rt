@@ -133,7 +133,7 @@ pub fn two_threads<N: Name, R: Threads>(
     requires rings { 0 < length N.rings }
     requires fresh { started machine.old.past ≡ false }
 {
-    let begun = starts(alloc, machine, rings, 1)?;
+    let begun = starts(machine, rings, 1)?;
     let deposited = rounds(rt, alloc, machine, rings, collector, batches)?;
     let reset = all_reset(machine.history().events(), PAGES);
     let out = machine.all_out();

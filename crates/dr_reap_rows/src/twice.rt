@@ -126,7 +126,7 @@ pub fn deposits_once<N: Name>(
     if rings.vcpus() == 0 {
         return Ok(false);
     }
-    let begun = starts(alloc, machine, rings, 13)?;
+    let begun = starts(machine, rings, 13)?;
     let written = all_plain(machine, rings, 5)?;
     let once = once_only(alloc, machine, rings, users)?;
     let five = machine.deposited(0) == Some(5);
