@@ -1,9 +1,6 @@
 pub mod Powers
-pub mod Rooms
 pub mod Pushing
 pub mod Machines
 pub mod Leaving
-pub mod Least
 pub mod Depositing
 pub mod Stepping
-pub mod Reading

@@ -7,32 +7,14 @@ ghost use Rattle.dr_turns.specs.Buffers.{all_pushed};
 ghost use Rattle.dr_turns.specs.Turns.{after_exit, exit_reason};
 ghost use Rattle.dr_machine.specs.Tied.{AreTied};
 
-use crate::ops::soft_limit;
 use crate::pushes::push_buffer;
 use dr_history::Event;
 use dr_log::Log;
+use dr_log_turns::exit_reason;
 use dr_ring::Name;
 use dr_rings::{KernelSeats, Rings};
 use dr_slots::Slots;
 use dr_types::Why;
-
-/// Why a vCPU leaves the guest: the first reason that holds.
-fn exit_reason(log: &Log, v: u32) -> Why
-    requires { v < vcpu_count log.now.guest }
-    ensures { result ≡ exit_reason log.now.guest v log.now.past }
-{
-    if log.halted(v) {
-        Why::Halted
-    } else if log.stopped() {
-        Why::Stopped
-    } else if log.kicked(v) {
-        Why::Kicked
-    } else if soft_limit(log.guest()) <= log.used(v) {
-        Why::Full
-    } else {
-        Why::Yield
-    }
-}
 
 /// A vCPU leaves the guest, behind its whole buffer.
 pub fn leave<N: Name>(

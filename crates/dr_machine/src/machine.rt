@@ -18,20 +18,22 @@ ghost use Rattle.dr_turns.specs.Buffers.{all_pushed};
 ghost use Rattle.dr_turns.specs.Due.{advanced, run_end, some_closing};
 ghost use Rattle.dr_turns.specs.Turns.{refusal, op_step, after_op, exit_reason, after_exit, all_out};
 ghost use Rattle.dr_reaps.specs.Deposits.{first_twice, next_deposited, HasGap};
-ghost use Rattle.dr_machine.specs.Copies.{copied_into};
+ghost use Rattle.dr_log_turns.specs.Copies.{copied_into};
+ghost use Rattle.dr_log_turns.specs.Throttled.{last_throttle};
 ghost use Rattle.dr_machine.specs.Tied.{AreRingsFor};
 
-use crate::deposits::{DepositFault, deposit_fresh, deposited, first_twice};
+use crate::deposits::{DepositFault, deposit_fresh};
 use crate::exits::leave;
-use crate::ops::{full_buffer, make_room, next_op, step_after};
+use crate::kept::Kept;
 use crate::pushes::push_where_full;
-use crate::reads::{all_out, run_end};
-use crate::resets::{flush, is_closing, is_next_deposited, reset_next};
-use crate::steps::step;
-use crate::writes::execute;
+use crate::resets::reset_next;
 use dr_bytes::PageBytes;
 use dr_history::History;
 use dr_log::Log;
+use dr_log_turns::{
+    Throttles, all_out, deposited, execute, first_twice, flush, full_buffer, is_closing,
+    is_next_deposited, make_room, next_op, run_end, step, step_after,
+};
 use dr_ring::{Name, Note};
 use dr_rings::{Batch, KernelSeats, Rings};
 use dr_slots::Slots;
@@ -49,12 +51,14 @@ pub struct Machine<N: Name> {
     log: Log,
     seats: KernelSeats<N>,
     slots: Slots,
+    throttles: Throttles,
     over: bool,
 }
 
 impl<N: Name> Model for Machine<N> {
     ghost use Rattle.std.specs.Prelude.{◌≡◌};
     ghost use Rattle.dr_turns.specs.Between.{AtTurnsEnd};
+    ghost use Rattle.dr_log_turns.specs.Throttled.{AreThrottles};
     ghost use Rattle.dr_machine.specs.States.{State};
     ghost use Rattle.dr_machine.specs.Tied.{AreTied};
 
@@ -62,7 +66,9 @@ impl<N: Name> Model for Machine<N> {
 
     ghost view = { λ m. record { past = m.log.past; seats = m.seats; over = m.over } };
 
-    ghost invariant = { λ m. AreTied N.guest N.rings m.slots m.log m.seats × AtTurnsEnd N.guest m.log.past };
+    ghost invariant = { λ m.
+        AreTied N.guest N.rings m.slots m.log m.seats × AtTurnsEnd N.guest m.log.past
+        × AreThrottles N.guest m.log.past m.throttles };
 }
 
 impl<N: Name> Machine<N> {
@@ -81,19 +87,24 @@ impl<N: Name> Machine<N> {
         ensures over { IfOk result (λ m. m.over ≡ false) }
     {
         let slots = Slots::new(alloc, &guest.slots)?;
+        let log = Log::new(alloc, guest)?;
+        let throttles = Throttles::new(alloc, log.vcpus())?;
         Ok(Machine {
             alloc,
-            log: Log::new(alloc, guest)?,
+            log,
             seats,
             slots,
+            throttles,
             over: false,
         })
     }
 
     /// What the type of a machine keeps: its history is legal, and the list of each kernel seat has its
-    /// vCPU's entries from the first to the last that is pushed, with their number that is reset.
+    /// vCPU's entries from the first to the last that is pushed, with their number that is reset. No
+    /// buffer is full.
     pub fn keeps(&self)
         ensures legal { IsLegal N.guest self.now.past }
+        ensures end { AtTurnsEnd N.guest self.now.past }
         ensures seats { AreSeats N.guest self.now.past self.now.seats }
         ensures rings { AreRingsFor N.guest N.rings }
     {
@@ -269,7 +280,16 @@ impl<N: Name> Machine<N> {
         self.log.reserve(1)?;
         let step = step(&mut self.log, self.alloc, now, into)?;
         self.log.is_legal();
+        self.throttles.follow(&self.log, step);
         Ok(step)
+    }
+
+    /// How long a vCPU was last throttled, in microseconds: what its last Throttled says, or 0.
+    pub fn throttle_us(&self, v: u32) -> u64
+        requires { v < vcpu_count N.guest }
+        ensures { result ≡ last_throttle v self.now.past }
+    {
+        self.throttles.of(v)
     }
 
     /// Ends the run: from now on no vCPU executes.
@@ -325,5 +345,17 @@ impl<N: Name> Machine<N> {
         ensures len { length result.now ≡ 4096 }
     {
         self.log.page(page)
+    }
+
+    /// What is left without the name: the guest that it fixes, the history and the kernel seats.
+    pub fn keep(self) -> Kept
+        ensures guest { result.guest ≡ N.guest }
+        ensures past { result.past ≡ self.past }
+        ensures seats { result.seats ≡ self.seats }
+    {
+        self.keeps();
+        let Machine { log, seats, .. } = self;
+        let (guest, history) = log.into_parts();
+        Kept::of(guest, history, seats.into_seats())
     }
 }

@@ -8,9 +8,9 @@ ghost use Rattle.dr_seats.specs.Entries.{entry};
 ghost use Rattle.dr_turns.specs.Buffers.{all_pushed, pushed_where_full};
 ghost use Rattle.dr_machine.specs.Tied.{AreTied};
 
-use crate::ops::full_buffer;
 use dr_history::Event;
 use dr_log::Log;
+use dr_log_turns::full_buffer;
 use dr_ring::Name;
 use dr_rings::{KernelSeats, Rings};
 use dr_slots::Slots;

@@ -1,10 +1,10 @@
 -- What a deposit, a reset and a flush leave.
-use Rattle.std.proofs.Common.{◌≡◌, ◌≢◌, ℕ, zero, suc, ◌+◌, ◌-◌, ◌<◌, ◌≤◌, Bool, true, false, cond, List, [], ◌∷◌, Option, Some, None, refl, ap, sym, ◌∙◌, subst, arith, inl, inr}
-use Rattle.std.specs.Prelude.{◌==◌, ◌&&◌, ◌||◌, nat_le, nat_lt, IfSome, IfOk, OnOk, OnErr, Result, Ok, Err}
+use Rattle.std.proofs.Common.{◌≡◌, ◌≢◌, ℕ, ◌+◌, ◌-◌, ◌<◌, ◌≤◌, Bool, true, false, cond, List, ◌∷◌, Option, Some, None, refl, ap, sym, ◌∙◌, arith}
+use Rattle.std.specs.Prelude.{◌||◌, IfSome, IfOk, OnOk, OnErr, Result, Ok, Err}
 use Rattle.std.proofs.lemmas.Result.{on_ok_weaker}
 use Rattle.dr_types.specs.declared.memory.Memory.{Memory}
 use Rattle.std.specs.List.{list_any}
-use Rattle.std.proofs.lemmas.Bool.{eq-eqb, ne_eqb, le-leb, lt-ltb, and_parts}
+use Rattle.std.proofs.lemmas.Bool.{eq-eqb, ne_eqb, le-leb, lt-ltb}
 use Rattle.dr_types.specs.declared.guest.Guest.{Guest}
 use Rattle.dr_types.specs.Pages.{page_count}
 use Rattle.dr_history.specs.declared.event.Event.{Event}
@@ -13,7 +13,7 @@ use Rattle.dr_history.specs.Dirty.{dirty}
 use Rattle.dr_history.specs.Entries.{page_of_entry, pushes, resets}
 use Rattle.dr_history.specs.Legality.{IsLegalSoFar}
 use Rattle.dr_history.specs.Lookback.{is_number}
-use Rattle.dr_history.specs.Protection.{cached, closing, resets_page}
+use Rattle.dr_history.specs.Protection.{closing}
 use Rattle.dr_history.specs.Rules.{deposits_entry}
 use Rattle.dr_law.proofs.Outstanding.{deposited_pushed}
 use Rattle.dr_reaps.proofs.Done.{none_any}

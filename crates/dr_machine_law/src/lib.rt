@@ -5,8 +5,10 @@ mod exits;
 mod ops;
 mod reaps;
 mod starts;
+mod steps;
 
 pub use exits::exit;
 pub use ops::op;
 pub use reaps::{deposit, flush, reset_turn};
 pub use starts::start;
+pub use steps::advance;

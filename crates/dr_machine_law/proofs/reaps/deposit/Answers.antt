@@ -1,7 +1,6 @@
-use Rattle.std.proofs.Common.{◌≡◌, ◌<◌, ◌+◌, subst, length, arith, ℕ, List}
+use Rattle.std.proofs.Common.{◌<◌, ◌+◌, subst, length, arith, ℕ, List}
 use Rattle.std.proofs.lemmas.Result.{on_ok_weaker}
 use Rattle.dr_history.specs.declared.event.Event.{Event}
-use Rattle.dr_history.specs.Entries.{pushes}
 use Rattle.dr_history.specs.Legality.{IsLegalSoFar}
 use Rattle.dr_seats.specs.Seats.{AreSeats}
 use Rattle.dr_machine_law.proofs.Reaping.{batch_is_pushed, batch_is_known}

@@ -2,7 +2,9 @@ use Rattle.std.proofs.Common.{◌≡◌, ◌≤◌, ◌∙◌, max, ap, sym, sub
 use Rattle.dr_types.specs.declared.guest.Guest.{Guest}
 use Rattle.dr_history.specs.declared.event.Event.{Event}
 use Rattle.dr_law.specs.Room.{unpushed}
-use Rattle.dr_turns.specs.Turns.{executed}
+use Rattle.dr_turns.specs.Turns.{after_op, executed}
+use Rattle.dr_log_turns.specs.Throttled.{AreThrottles}
+use Rattle.dr_log_turns.proofs.Throttling.{throttles_stay, op_throttles}
 use Rattle.dr_turns.proofs.Ending.{op_ends}
 use Rattle.dr_turns.proofs.Executing.{executed_rests, executed_own}
 use Rattle.dr_machine.specs.States.{State}
@@ -52,4 +54,9 @@ invariant_of-self-2 g c =
     let same : c.make_room.new.log.past ≡ now = c.in_ok-make_room.ensures.past ∙ ap (λ (s : State). s.past) c.self.view_is in
     let past : new.past ≡ executed guest c.args.v now =
     subst (λ (xs : List Event). new.past ≡ executed guest c.args.v xs) same (subst (λ (h : Guest). new.past ≡ executed h c.args.v c.make_room.new.log.past) roomy c.execute.ensures.past) in
-    (c.push_where_full.ensures.tied, rw (c.push_where_full.ensures.past, past) (op_ends guest now c.args.v c.requires.turn))
+    let was : c.self.inside.log.past ≡ now = ap (λ (s : State). s.past) c.self.view_is in (
+      c.push_where_full.ensures.tied,
+      rw (c.push_where_full.ensures.past, past) (op_ends guest now c.args.v c.requires.turn),
+      rw (c.push_where_full.ensures.past, past)
+          (throttles_stay guest now (after_op guest c.args.v now) c.self.inside.throttles (subst (λ (xs : List Event). AreThrottles guest xs c.self.inside.throttles) was c.self.invariant.2) (op_throttles guest c.args.v now)),
+    )

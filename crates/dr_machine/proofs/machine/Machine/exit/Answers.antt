@@ -4,9 +4,10 @@ use Rattle.dr_history.specs.Legality.{IsLegalSoFar}
 use Rattle.dr_history.specs.Vcpus.{in_guest}
 use Rattle.dr_law.specs.Room.{unpushed}
 use Rattle.dr_may.specs.May.{AtRest}
-use Rattle.dr_turns.specs.Turns.{exit_reason}
+use Rattle.dr_turns.specs.Turns.{after_exit, exit_reason}
 use Rattle.dr_turns.specs.Buffers.{all_pushed}
 use Rattle.dr_turns.proofs.Leaving.{inside_rests, exit_ends}
+use Rattle.dr_log_turns.proofs.Throttling.{throttles_stay, exit_throttles}
 use Rattle.dr_machine.proofs.Machines.{few_unpushed}
 use Rattle.dr_machine.proofs.machine.Machine.exit.Goals as goal
 
@@ -35,4 +36,5 @@ invariant_of-self-then-inside g c =
     let rest : AtRest guest past = inside_rests guest past c.args.v c.requires legal c.self.invariant.1 inside in (
       c.leave.ensures.tied,
       rw (c.leave.ensures.past, c.in_ok-reserve.ensures.past) (exit_ends guest past c.args.v (exit_reason guest c.args.v (all_pushed c.args.v past)) rest c.self.invariant.1),
+      rw (c.leave.ensures.past, c.in_ok-reserve.ensures.past) (throttles_stay guest past (after_exit guest c.args.v past) c.self.inside.throttles c.self.invariant.2 (exit_throttles guest c.args.v past)),
     )

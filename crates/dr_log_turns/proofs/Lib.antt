@@ -1,0 +1,5 @@
+pub mod Rooms
+pub mod Least
+pub mod Stepping
+pub mod Reading
+pub mod Throttling

@@ -1,0 +1,152 @@
+ghost use Rattle.std.specs.Prelude.{◌≡◌, ◌≤◌, ◌<◌, ◌+◌, ◌∷◌, true, false, None, Some};
+ghost use Rattle.std.specs.List.{list_any};
+ghost use Rattle.dr_history.specs.declared.event.Event.{Event};
+ghost use Rattle.dr_history.specs.Kinds.{is_switched};
+ghost use Rattle.dr_history.specs.Memory.{page_bytes};
+ghost use Rattle.dr_history.specs.Protection.{started};
+ghost use Rattle.dr_history.specs.Rounds.{asks, unanswered, last_synced, few_answered};
+ghost use Rattle.dr_history.specs.Vcpus.{stopped};
+ghost use Rattle.dr_may.specs.May.{MayFollow};
+ghost use Rattle.dr_turns.specs.Between.{AtTurnsEnd};
+ghost use Rattle.dr_turns.specs.Due.{asked, left, round_of, after_stop, after_copies, next_round};
+ghost use Rattle.dr_log_turns.specs.Copies.{IsNoCopy};
+
+use crate::searches::first_unpaced_recently;
+use dr_bytes::PageBytes;
+use dr_history::Event;
+use dr_log::Log;
+use dr_turns::Advance;
+
+/// Copies the page of the open round that is next.
+pub fn copy(log: &mut Log, page: u32, into: &mut PageBytes) -> Advance
+    requires end { AtTurnsEnd log.old.guest log.old.past }
+    requires answered { unanswered log.old.past ≡ None }
+    requires left { left log.old.guest log.old.past ≡ Some page }
+    requires events { 1 ≤ log.old.room.events }
+    ensures answer { result ≡ Advance.Copied (round_of (last_synced log.old.past)) page }
+    ensures past { let r = round_of (last_synced log.old.past) in
+        log.new.past ≡ Event.Copied r page ∷ log.old.past }
+    ensures into { into.new ≡ page_bytes log.old.guest page log.old.past }
+    ensures guest { log.new.guest ≡ log.old.guest }
+{
+    log.is_legal();
+    let r = log.answered_round();
+    log.copy_page(page, into);
+    log.take(Event::Copied { r, page });
+    Advance::Copied { r, page }
+}
+
+/// Asks the next round.
+fn ask(log: &mut Log) -> Advance
+    requires follows { MayFollow log.old.guest log.old.past (Event.Asked (asks log.old.past + 1)) }
+    requires events { 1 ≤ log.old.room.events }
+    ensures answer { result ≡ (asked log.old.past).0 }
+    ensures past { log.new.past ≡ (asked log.old.past).1 }
+    ensures quiet { IsNoCopy result }
+    ensures guest { log.new.guest ≡ log.old.guest }
+{
+    log.is_legal();
+    let r = log.asks() as u32 + 1;
+    log.take(Event::Asked { r });
+    Advance::Asked { r }
+}
+
+/// After the stop the last round is asked, and behind its copies the guest switches over.
+#[tactic(auto, using(dr_steps::proofs::Going::switch_follows, dr_steps::proofs::Going::ask_last_follows))]
+fn go_on_stopped(log: &mut Log) -> Advance
+    requires end { AtTurnsEnd log.old.guest log.old.past }
+    requires answered { unanswered log.old.past ≡ None }
+    requires left { left log.old.guest log.old.past ≡ None }
+    requires here { list_any is_switched log.old.past ≡ false }
+    requires stopped { stopped log.old.past ≡ true }
+    requires events { 1 ≤ log.old.room.events }
+    ensures answer { result ≡ (after_stop log.old.past).0 }
+    ensures past { log.new.past ≡ (after_stop log.old.past).1 }
+    ensures quiet { IsNoCopy result }
+    ensures guest { log.new.guest ≡ log.old.guest }
+{
+    log.is_legal();
+    if log.asked_since_stop() {
+        log.take(Event::Switched);
+        Advance::Switched
+    } else {
+        ask(log)
+    }
+}
+
+/// Stops the guest.
+#[tactic(auto, using(dr_steps::proofs::Going::stop_follows))]
+fn stop(log: &mut Log) -> Advance
+    requires end { AtTurnsEnd log.old.guest log.old.past }
+    requires answered { unanswered log.old.past ≡ None }
+    requires here { list_any is_switched log.old.past ≡ false }
+    requires runs { stopped log.old.past ≡ false }
+    requires few { few_answered log.old.guest (last_synced log.old.past) ≡ true }
+    requires events { 1 ≤ log.old.room.events }
+    ensures answer { result ≡ Advance.Stopping }
+    ensures past { log.new.past ≡ Event.Stopped ∷ log.old.past }
+    ensures guest { log.new.guest ≡ log.old.guest }
+{
+    log.is_legal();
+    log.take(Event::Stopped);
+    Advance::Stopping
+}
+
+/// Asks the next round, where each vCPU is paced since the last one.
+#[tactic(auto, using(dr_steps::proofs::Going::ask_first_follows, dr_steps::proofs::Going::ask_later_follows))]
+fn ask_next(log: &mut Log) -> Advance
+    requires end { AtTurnsEnd log.old.guest log.old.past }
+    requires started { started log.old.past ≡ true }
+    requires answered { unanswered log.old.past ≡ None }
+    requires left { left log.old.guest log.old.past ≡ None }
+    requires here { list_any is_switched log.old.past ≡ false }
+    requires runs { stopped log.old.past ≡ false }
+    requires many { few_answered log.old.guest (last_synced log.old.past) ≡ false }
+    requires more { asks log.old.past < log.old.guest.settings.rounds }
+    requires events { 1 ≤ log.old.room.events }
+    ensures answer { result ≡ (next_round log.old.guest log.old.past).0 }
+    ensures past { log.new.past ≡ (next_round log.old.guest log.old.past).1 }
+    ensures quiet { IsNoCopy result }
+    ensures guest { log.new.guest ≡ log.old.guest }
+{
+    log.is_legal();
+    if log.asks() == 0 {
+        return ask(log);
+    }
+    match first_unpaced_recently(log) {
+        None => ask(log),
+        Some(v) => Advance::NotPaced {
+            v,
+            done: log.recent_ops(v) as u32,
+        },
+    }
+}
+
+/// What is due where nothing is left to copy.
+pub fn go_on(log: &mut Log) -> Advance
+    requires end { AtTurnsEnd log.old.guest log.old.past }
+    requires started { started log.old.past ≡ true }
+    requires answered { unanswered log.old.past ≡ None }
+    requires left { left log.old.guest log.old.past ≡ None }
+    requires events { 1 ≤ log.old.room.events }
+    ensures answer { result ≡ (after_copies log.old.guest log.old.past).0 }
+    ensures past { log.new.past ≡ (after_copies log.old.guest log.old.past).1 }
+    ensures quiet { IsNoCopy result }
+    ensures guest { log.new.guest ≡ log.old.guest }
+{
+    let switched = log.switched();
+    let stopped = log.stopped();
+    let few = log.few_answered();
+    let more = log.asks() < u64::from(log.guest().settings.rounds);
+    if switched {
+        Advance::Finished
+    } else if stopped {
+        go_on_stopped(log)
+    } else if few {
+        stop(log)
+    } else if more {
+        ask_next(log)
+    } else {
+        Advance::Budget
+    }
+}

@@ -1,5 +1,0 @@
-use Rattle.dr_reaps.specs.Deposits.{FirstDeposited}
-use Rattle.dr_machine.proofs.deposits.first_missing.Given as goal
-
-abbrev pub invariant-loop-k : goal.invariant-loop-k
-invariant-loop-k l = FirstDeposited l.v l.k l.log.past

@@ -1,0 +1,66 @@
+ghost use Rattle.std.specs.Prelude.{◌≡◌, length};
+ghost use Rattle.dr_types.specs.Scripts.{vcpu_count};
+ghost use Rattle.dr_history.specs.Legality.{IsLegal};
+ghost use Rattle.dr_seats.specs.Seats.{AreSeats};
+
+use dr_history::History;
+use dr_rings::KernelSeatList;
+use dr_types::Guest;
+use std::marker::Model;
+
+/// What is left of a machine, without the name: its guest, what has happened to it, and the kernel
+/// seats of its rings. Its type keeps that the history is legal for the guest, and that each seat has
+/// pushed and reset what the events say. Only a machine makes one.
+#[derive(Drop)]
+pub struct Kept {
+    guest: Guest,
+    history: History,
+    seats: KernelSeatList,
+}
+
+impl Model for Kept {
+    ghost use Rattle.dr_history.specs.Legality.{IsLegal};
+    ghost use Rattle.dr_seats.specs.Seats.{AreSeats};
+    ghost use Rattle.dr_machine.specs.States.{Left};
+
+    ghost Value = { Left };
+
+    ghost view = { λ k. record { guest = k.guest; past = k.history.past; seats = k.seats } };
+
+    ghost invariant = { λ k.
+        IsLegal k.guest k.history.past × AreSeats k.guest k.history.past k.seats };
+}
+
+impl Kept {
+    /// Of a machine's parts.
+    pub(crate) fn of(guest: Guest, history: History, seats: KernelSeatList) -> Kept
+        requires legal { IsLegal guest history.past }
+        requires seats { AreSeats guest history.past seats }
+        ensures guest { result.guest ≡ guest }
+        ensures past { result.past ≡ history.past }
+        ensures seats { result.seats ≡ seats }
+    {
+        Kept {
+            guest,
+            history,
+            seats,
+        }
+    }
+
+    /// The guest.
+    pub fn guest(&self) -> &Guest
+        ensures { result.now ≡ self.now.guest }
+    {
+        &self.guest
+    }
+
+    /// What has happened, which is legal for the guest.
+    pub fn history(&self) -> &History
+        ensures past { result.now.past ≡ self.now.past }
+        ensures legal { IsLegal self.now.guest result.now.past }
+        ensures seats { AreSeats self.now.guest result.now.past self.now.seats }
+    {
+        let _guest = &self.guest;
+        &self.history
+    }
+}
