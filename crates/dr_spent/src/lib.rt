@@ -1,0 +1,31 @@
+//! When the rounds of a migration are spent: what a run that ends by its budget tells of its
+//! history.
+#![tactic(auto)]
+
+ghost use Rattle.std.specs.Prelude.{◌≡◌, List, ◌∷◌};
+ghost use Rattle.dr_types.specs.declared.guest.Guest.{Guest};
+ghost use Rattle.dr_history.specs.declared.event.Event.{Event};
+ghost use Rattle.dr_history.specs.Legality.{IsLegalSoFar};
+ghost use Rattle.dr_turns.specs.declared.answers.RunEnd.TheVariants.{Budget};
+ghost use Rattle.dr_turns.specs.Due.{run_end};
+ghost use Rattle.dr_spent.specs.Spent.{AreSpent};
+
+/// A run ends by its budget only where logging began, each round from 1 to the last that the guest
+/// may have was answered with more pages than the threshold, all of them were copied for it, and
+/// the guest isn't stopped.
+pub fn rounds_are_spent()
+    ensures { (guest : Guest) (past : List Event) → IsLegalSoFar guest past
+        → run_end guest past ≡ Budget → AreSpent guest past }
+{}
+
+/// And wherever that is so, the run ends by its budget.
+pub fn spent_rounds_end_the_run()
+    ensures { (guest : Guest) (past : List Event) → IsLegalSoFar guest past → AreSpent guest past
+        → run_end guest past ≡ Budget }
+{}
+
+/// Whatever event the rules let follow, rounds that are spent stay so.
+pub fn spent_rounds_stay_spent()
+    ensures { (guest : Guest) (past : List Event) (e : Event) → IsLegalSoFar guest (e ∷ past)
+        → AreSpent guest past → AreSpent guest (e ∷ past) }
+{}
