@@ -1,0 +1,5 @@
+pub mod Settled
+pub mod Reaps
+pub mod Schedule
+pub mod Waiting
+pub mod Timed
