@@ -1,31 +1,21 @@
--- How many pages are copied and how many entries are reset at most.
+-- How many pages are copied at most.
 use Rattle.std.proofs.Common.{◌≡◌, ℕ, zero, suc, ◌+◌, ◌*◌, ◌^◌, ◌-◌, ◌<◌, ◌≤◌, Bool, true, false, cond, List, [], ◌∷◌, is_some, length, refl, ap, sym, ◌∙◌, arith, add-one, slice_get}
-use Rattle.std.specs.Prelude.{◌==◌}
 use Rattle.std.proofs.lemmas.Bool.{false≢true}
 use Rattle.std.proofs.lemmas.List.{length-append}
 use Rattle.std.proofs.lemmas.List.Sums.{length-filter, count_by-le-length}
 use Rattle.dr_types.specs.declared.guest.Guest.{Guest}
 use Rattle.dr_types.specs.Pages.{page_count}
-use Rattle.dr_types.specs.Scripts.{op_count}
 use Rattle.dr_types.specs.Validity.{IsValid}
 use Rattle.dr_history.specs.declared.event.Event.{Event}
-use Rattle.dr_history.specs.declared.event.Event.TheVariants.{Read, Write, Paint, Local, Halted, Asked, Synced, Copied}
+use Rattle.dr_history.specs.declared.event.Event.TheVariants.{Asked, Synced, Copied}
 use Rattle.dr_history.specs.Dirty.{dirty, dirty_pages}
-use Rattle.dr_history.specs.Entries.{opens, pushes, resets}
-use Rattle.dr_history.specs.Execution.{ops}
 use Rattle.dr_history.specs.Kinds.{is_copied, is_synced}
 use Rattle.dr_history.specs.Legality.{IsLegalSoFar}
 use Rattle.dr_history.specs.Lookback.{below, count, is_number}
 use Rattle.dr_history.specs.Rounds.{asks, unanswered, last_synced}
 use Rattle.dr_law.specs.Copies.{copies, pages_of}
-use Rattle.dr_law.specs.Length.{script_length}
-use Rattle.dr_law.specs.Order.{writes, last_opens_for}
 use Rattle.dr_law.proofs.Copies.{answers_exactly, copy_facts, next_copy}
 use Rattle.dr_law.proofs.Kept.{syncs_facts}
-use Rattle.dr_law.proofs.Length.{stays_in_script}
-use Rattle.dr_law.proofs.Limits.{script_in_total}
-use Rattle.dr_law.proofs.Order.{opened_in_order, reset_pushed}
-use Rattle.dr_law.proofs.Outstanding.{more, pushed_opened}
 use Rattle.dr_law.proofs.Switch.{number_some}
 use Rattle.dr_steps.proofs.Going.{asks_fit}
 
@@ -91,34 +81,4 @@ copied_fits guest past valid legal =
     let few : copies past ≤ length (pages_of (last_synced past)) = copies_few guest past legal in
     let asked : count is_synced past + cond (is_some (unanswered past)) 1 0 ≤ asks past = answers_asked guest past legal in
     let all : asks past ≤ 65 = asks_fit guest past valid legal in
-    omega arith
-
-both_more : (same : Bool) (a b : ℕ) → a ≤ b → cond same (a + 1) a ≤ cond same (b + 1) b
-both_more true a b h = omega arith
-both_more false a b h = h
-
-writes_ops : (past : List Event) (v : ℕ) → writes v past ≤ ops v past
-writes_ops [] v = omega arith
-writes_ops (Read w i address value ∷ past) v = more (w == v) (writes v past) (ops v past) (writes_ops past v)
-writes_ops (Write w i address len value ∷ past) v = both_more (w == v) (writes v past) (ops v past) (writes_ops past v)
-writes_ops (Paint w i page byte ∷ past) v = both_more (w == v) (writes v past) (ops v past) (writes_ops past v)
-writes_ops (Local w i ∷ past) v = more (w == v) (writes v past) (ops v past) (writes_ops past v)
-writes_ops (Halted w i ∷ past) v = more (w == v) (writes v past) (ops v past) (writes_ops past v)
-writes_ops (e ∷ past) v = writes_ops past v
-
-one_at_most : (b : Bool) → cond b 1 0 ≤ 1
-one_at_most true = omega arith
-one_at_most false = omega arith
-
--- a vCPU opens no more entries than a valid guest has ops, and one
-pub resets_few : (guest : Guest) (past : List Event) (v : ℕ) → IsValid guest → IsLegalSoFar guest past → resets v past ≤ 200001
-resets_few guest past v valid legal =
-    let a : resets v past ≤ pushes v past = reset_pushed guest past v legal in
-    let b : pushes v past ≤ opens v past = pushed_opened guest past v legal in
-    let c : opens v past ≤ writes v past + cond (last_opens_for v past) 1 0 = opened_in_order guest past v legal in
-    let d : writes v past ≤ ops v past = writes_ops past v in
-    let e : ops v past ≤ script_length guest v = stays_in_script guest past v legal in
-    let f : script_length guest v ≤ op_count guest.scripts = script_in_total guest.scripts v in
-    let g : op_count guest.scripts ≤ 200000 = valid.ops in
-    let h : cond (last_opens_for v past) 1 0 ≤ 1 = one_at_most (last_opens_for v past) in
     omega arith

@@ -12,7 +12,7 @@ use Rattle.dr_history.specs.Stream.{stream_of}
 use Rattle.dr_history.specs.Vcpus.{stopped}
 use Rattle.dr_machine.specs.States.{State}
 use Rattle.dr_stream.specs.Sending.{Sending}
-use Rattle.dr_bench.specs.Bench.{BenchState, BenchKeeps, IsTracked, IsPartOf, IsQuiet, SameOutlet, bench_of}
+use Rattle.dr_bench.specs.Bench.{BenchKeeps, IsTracked, IsPartOf, IsQuiet, bench_of}
 use Rattle.dr_bench.proofs.Quiet.{quiet_still, quiet_to}
 
 -- a new bench
@@ -59,7 +59,3 @@ pub gives_up : (guest : Guest) (ports : Ports) (before : ℕ) (m n : State) (s :
 gives_up guest ports before m n s failed stop kept same over =
     let quiet : IsQuiet guest m.past n.past = quiet_to guest m.past m.past n.past (quiet_still guest m.past) same in
     (keeps_over guest ports before m n s failed kept.0 quiet (λ was. over), tracks_on guest m.past n.past s.pages stop kept.1 quiet)
-
--- nothing was put in two turns
-pub outlet_then : (a b c : BenchState) → SameOutlet a b → SameOutlet b c → SameOutlet a c
-outlet_then a b c x y = record { failed = y.failed ∙ x.failed; told = y.told ∙ x.told; faults = y.faults ∙ x.faults }

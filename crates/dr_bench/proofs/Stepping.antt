@@ -20,7 +20,7 @@ use Rattle.dr_history.specs.Throttles.{throttle}
 use Rattle.dr_history.specs.Vcpus.{stopped}
 use Rattle.dr_io.specs.declared.outlet.PutTurn.{PutTurn}
 use Rattle.dr_io.specs.declared.outlet.PutTurn.TheVariants.{Done, Failed}
-use Rattle.dr_machine.specs.Copies.{copied_into}
+use Rattle.dr_log_turns.specs.Copies.{copied_into}
 use Rattle.dr_machine.specs.States.{State}
 use Rattle.dr_steps.proofs.Cases.{IsWait, advanced_cases}
 use Rattle.dr_stream.specs.Sending.{Sending, Sends}

@@ -13,11 +13,13 @@ ghost use Rattle.dr_history.specs.Lookback.{count};
 ghost use Rattle.dr_history.specs.Memory.{page_bytes};
 ghost use Rattle.dr_history.specs.Rules.{deposits_entry};
 ghost use Rattle.dr_history.specs.Vcpus.{in_guest};
+ghost use Rattle.dr_log_turns.specs.Throttled.{last_throttle};
 ghost use Rattle.dr_machine.specs.Tied.{AreRingsFor};
 ghost use Rattle.dr_reaps.specs.Deposits.{first_twice, next_deposited, HasGap};
 ghost use Rattle.dr_ring.specs.Seats.{kernel_note};
 ghost use Rattle.dr_rings.specs.Seated.{HasAt};
 ghost use Rattle.dr_seats.specs.Seats.{AreSeats};
+ghost use Rattle.dr_turns.specs.Between.{AtTurnsEnd};
 ghost use Rattle.dr_turns.specs.Buffers.{all_pushed};
 ghost use Rattle.dr_turns.specs.Due.{advanced, run_end, some_closing};
 ghost use Rattle.dr_turns.specs.Turns.{refusal, op_step, after_op, exit_reason, after_exit, all_out};
@@ -83,9 +85,8 @@ impl<N: Name, O: Outlet> Model for Bench<N, O> {
 
 impl<N: Name, O: Outlet> Bench<N, O> {
     /// A bench of a machine of which nothing has happened, and an outlet that is as the name says.
-    /// The page is room for the bytes of copies.
     #[tactic(auto, using(crate::proofs::Keeping::begins))]
-    pub fn new(machine: Machine<N>, out: O, page: PageBytes) -> Bench<N, O>
+    pub fn new(machine: Machine<N>, out: O) -> Bench<N, O>
         requires past { machine.past ≡ [] }
         requires ports { O.told out ≡ N.ports }
         requires faults { O.faults out ≡ N.faults }
@@ -99,7 +100,7 @@ impl<N: Name, O: Outlet> Bench<N, O> {
         Bench {
             machine,
             sender: Sender::new(out),
-            copied: page,
+            copied: PageBytes::new(),
             stopped: false,
             failed: false,
         }
@@ -123,6 +124,7 @@ impl<N: Name, O: Outlet> Bench<N, O> {
     pub fn keeps(&self)
         ensures keeps { BenchKeeps N.guest N.ports N.faults self.now }
         ensures legal { IsLegal N.guest self.now.past }
+        ensures end { AtTurnsEnd N.guest self.now.past }
         ensures seats { AreSeats N.guest self.now.past self.now.seats }
         ensures rings { AreRingsFor N.guest N.rings }
     {
@@ -280,6 +282,14 @@ impl<N: Name, O: Outlet> Bench<N, O> {
     {
         let _guest = self.machine.guest();
         self.machine.keeps();
+    }
+
+    /// How long a vCPU was last throttled, in microseconds: what its last Throttled says, or 0.
+    pub fn throttle_us(&self, v: u32) -> u64
+        requires { v < vcpu_count N.guest }
+        ensures { result ≡ last_throttle v self.now.past }
+    {
+        self.machine.throttle_us(v)
     }
 
     /// Ends the run: from now on no vCPU executes.

@@ -2,10 +2,6 @@
 #![tactic(auto)]
 
 mod bench;
-mod deposits;
-mod resets;
-mod settling;
 mod steps;
 
 pub use bench::{Bench, BenchFault};
-pub use settling::settle;
