@@ -1,0 +1,4 @@
+pub mod Stepped
+pub mod Acting
+pub mod Waiting
+pub mod Running

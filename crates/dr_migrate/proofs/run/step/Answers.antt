@@ -1,0 +1,18 @@
+use Rattle.std.proofs.Common.{◌∙◌, ◌≡◌, sym}
+use Rattle.dr_migrate.proofs.Running.{time_read, last_read, waited_stepped}
+use Rattle.dr_migrate.proofs.run.step.Goals as goal
+
+pub returns-in_err-end-clause-times : goal.returns-in_err-end-clause-times
+returns-in_err-end-clause-times g c =
+    let reads = g.C.Clock.reads c.args.clock.now in
+    let old = c.args.bench.now.past in
+    let mid = c.advance.new.bench.past in
+    last_read reads old mid c.wait.new.bench.past (time_read reads c.now_us-now.result old mid c.now_us-now.ensures c.in_ok-step.ensures.times) c.in_err-end.ensures.waited.timeless
+
+pub returns-clause-stepped : goal.returns-clause-stepped
+returns-clause-stepped g c =
+    let guest = g.N.Name.guest in
+    let old = c.args.bench.now.past in
+    let mid = c.advance.new.bench.past in
+    let same : mid ≡ old = c.in_ok-step.ensures.advanced.waits (sym c.appends.ensures ∙ c.if-appends.false) in
+    waited_stepped guest c.in_ok-end.end old mid c.wait.new.bench.past same c.keeps.ensures.legal.0 c.in_ok-end.ensures.waited

@@ -1,0 +1,9 @@
+//! A migration on one thread, by the schedule.
+#![tactic(auto)]
+
+mod leaving;
+mod reaping;
+mod run;
+mod steps;
+
+pub use run::drive;

@@ -1,0 +1,41 @@
+ghost use Rattle.std.specs.Prelude.{◌≡◌, ◌<◌, OnOk, OnErr};
+ghost use Rattle.dr_types.specs.Scripts.{vcpu_count};
+ghost use Rattle.dr_bench.specs.Bench.{SameOutlet};
+ghost use Rattle.dr_schedule.specs.Reaps.{Extends, reaped};
+ghost use Rattle.dr_schedule.specs.Schedule.{reaps_after_full};
+ghost use Rattle.dr_settle.specs.Step.{AreInStep};
+
+use dr_bench::Bench;
+use dr_collector::Collector;
+use dr_io::Outlet;
+use dr_ring::Name;
+use dr_rings::Rings;
+use dr_settle::{reap_all, reap_one};
+use dr_types::Memory;
+use std::alloc::Global;
+
+/// Reaps after a vCPU left with a full ring: its own ring where there is a quota, else all.
+pub fn reap_after_full<N: Name, O: Outlet>(
+    alloc: Global,
+    bench: &mut Bench<N, O>,
+    collector: &mut Collector<N>,
+    rings: &Rings<N>,
+    v: u32,
+) -> Result<(), Memory>
+    requires vcpu { v < vcpu_count N.guest }
+    requires in_step { AreInStep N.guest bench.old.past collector.old }
+    ensures reaped { let whose = reaps_after_full N.guest v in
+        OnOk result (bench.new.past ≡ reaped N.guest whose bench.old.past) }
+    ensures in_step { OnOk result (AreInStep N.guest bench.new.past collector.new) }
+    ensures part { let whose = reaps_after_full N.guest v in
+        OnErr result (Extends bench.new.past (reaped N.guest whose bench.old.past)) }
+    ensures over { bench.new.over ≡ bench.old.over }
+    ensures outlet { SameOutlet bench.old bench.new }
+{
+    if bench.guest().settings.quota >= 1 {
+        reap_one(bench, collector, rings, alloc, v)?;
+    } else {
+        reap_all(bench, collector, rings, alloc)?;
+    }
+    Ok(())
+}

@@ -1,0 +1,134 @@
+ghost use Rattle.std.specs.Prelude.{◌≡◌, ◌<◌, ◌≤◌, ℕ, All, false, Some, None, IfOk, IfErr, OnOk, OnErr, length};
+ghost use Rattle.dr_history.specs.Times.{times};
+ghost use Rattle.dr_bound.specs.Bound.{most_events};
+ghost use Rattle.dr_bench.specs.Bench.{SameOutlet};
+ghost use Rattle.dr_schedule.specs.Schedule.{appends};
+ghost use Rattle.dr_schedule.specs.Timed.{MayAddTime};
+ghost use Rattle.dr_turns.specs.Due.{advanced};
+ghost use Rattle.dr_migrate.specs.Driving.{GoesOn, HasAdvanced, IsCutOff, IsEnd, StaysRead, StaysScheduled, Stepped, Waited, is_sink};
+
+use crate::steps::{appends, flush, kick_out, reap, run_vcpu};
+use dr_bench::{Bench, BenchFault};
+use dr_collector::Collector;
+use dr_io::{Clock, Outlet};
+use dr_ring::Name;
+use dr_rings::Rings;
+use dr_turns::{Advance, RunEnd};
+use dr_types::Memory;
+use std::alloc::Global;
+
+/// The migrator's step that is due.
+fn advance<N: Name, O: Outlet>(
+    bench: &mut Bench<N, O>,
+    collector: &Collector<N>,
+    now: u64,
+) -> Result<Advance, BenchFault>
+    requires going { GoesOn N.guest bench.old collector.now }
+    ensures advanced { IfOk result (λ step.
+        HasAdvanced N.guest now step bench.old.past bench.new.past) }
+    ensures going { OnOk result (GoesOn N.guest bench.new collector.now) }
+    ensures cut { OnErr result (IsCutOff N.guest bench.old.past bench.new.past) }
+    ensures times { MayAddTime now bench.old.past bench.new.past }
+    ensures sink { IfErr result (λ why. bench.new.failed ≡ is_sink why) }
+    ensures later { bench.old.faults ≤ bench.new.faults }
+{
+    let step = bench.advance(now)?;
+    bench.keeps();
+    Ok(step)
+}
+
+/// Does what a step of the migrator calls for that appended nothing. Answers where the run stands at
+/// its end, and `None` where it goes on.
+fn wait<N: Name, O: Outlet, C: Clock>(
+    alloc: Global,
+    bench: &mut Bench<N, O>,
+    collector: &mut Collector<N>,
+    rings: &Rings<N>,
+    clock: &C,
+    now: u64,
+    step: Advance,
+) -> Result<Option<RunEnd>, Memory>
+    requires answer { (advanced N.guest now bench.old.past).0 ≡ step }
+    requires waits { appends step ≡ false }
+    requires going { GoesOn N.guest bench.old collector.old }
+    ensures waited { Waited N.guest result bench.old.past bench.new.past }
+    ensures going { OnOk result (GoesOn N.guest bench.new collector.new) }
+    ensures over { bench.new.over ≡ bench.old.over }
+    ensures outlet { SameOutlet bench.old bench.new }
+{
+    bench.keeps();
+    match step {
+        Advance::NotPaced { v, done } => {
+            run_vcpu(alloc, bench, collector, rings, clock, now, v, done)?;
+        }
+        Advance::NotOut { v } => kick_out(bench, collector, rings, now, v)?,
+        Advance::NotReset { v, k } => reap(alloc, bench, collector, rings, now, v, k)?,
+        Advance::NotFlushed => flush(bench, collector, now)?,
+        Advance::Finished => return Ok(Some(RunEnd::Switched)),
+        Advance::Budget => return Ok(Some(RunEnd::Budget)),
+        Advance::Started
+        | Advance::Answered { r: _, pages: _ }
+        | Advance::Copied { r: _, page: _ }
+        | Advance::Asked { r: _ }
+        | Advance::Stopping
+        | Advance::Switched => unreachable!(),
+    }
+    Ok(None)
+}
+
+/// Does the step of the migrator that is due, or what it calls for. Answers where the run stands at
+/// its end, and `None` where it goes on.
+fn step<N: Name, O: Outlet, C: Clock>(
+    alloc: Global,
+    bench: &mut Bench<N, O>,
+    collector: &mut Collector<N>,
+    rings: &Rings<N>,
+    clock: &C,
+) -> Result<Option<RunEnd>, BenchFault>
+    requires going { GoesOn N.guest bench.old collector.old }
+    ensures stepped { Stepped N.guest result bench.old.past bench.new.past }
+    ensures going { OnOk result (GoesOn N.guest bench.new collector.new) }
+    ensures sink { IfErr result (λ why. bench.new.failed ≡ is_sink why) }
+    ensures later { bench.old.faults ≤ bench.new.faults }
+    ensures times { StaysRead (C.reads clock.now) bench.old.past bench.new.past }
+{
+    let now = clock.now_us();
+    let step = advance(bench, collector, now)?;
+    if appends(step) {
+        return Ok(None);
+    }
+    let end = wait(alloc, bench, collector, rings, clock, now, step)?;
+    bench.keeps();
+    Ok(end)
+}
+
+/// Takes a bench to its end by the schedule: the migrator's step that is due is done again and again.
+/// Where it waits for a vCPU to be paced, that vCPU executes its next op, and leaves behind a halt;
+/// with a full ring it leaves, its ring is reaped, or all are where there is no quota, and it sleeps
+/// for its throttle. A kicked vCPU leaves. Where entries are to be reset all rings are reaped; where
+/// pages are closing they are flushed. Each of these adds an event, and a guest has no more than
+/// `most_events`, so it comes to an end.
+#[tactic(auto, using(crate::proofs::Running::drive_begins, crate::proofs::Running::drive_continues, crate::proofs::Running::drive_ends, crate::proofs::Running::drive_cut, crate::proofs::Running::drive_times))]
+pub fn drive<N: Name, O: Outlet, C: Clock>(
+    alloc: Global,
+    bench: &mut Bench<N, O>,
+    collector: &mut Collector<N>,
+    rings: &Rings<N>,
+    clock: &C,
+) -> Result<RunEnd, BenchFault>
+    requires going { GoesOn N.guest bench.old collector.old }
+    ensures end { IfOk result (IsEnd N.guest bench.new.past) }
+    ensures going { OnOk result (GoesOn N.guest bench.new collector.new) }
+    ensures scheduled { OnOk result (StaysScheduled N.guest bench.old.past bench.new.past) }
+    ensures cut { OnErr result (IsCutOff N.guest bench.old.past bench.new.past) }
+    ensures sink { IfErr result (λ why. bench.new.failed ≡ is_sink why) }
+    ensures later { bench.old.faults ≤ bench.new.faults }
+    ensures times { StaysRead (C.reads clock.now) bench.old.past bench.new.past }
+{
+    loop {
+        match step(alloc, bench, collector, rings, clock)? {
+            Some(end) => return Ok(end),
+            None => {}
+        }
+    }
+}
