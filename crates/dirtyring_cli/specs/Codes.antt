@@ -21,5 +21,6 @@ code_of Unbuilt = 10
 -- was put
 abbrev pub code_unwritten : Status → ℕ
 code_unwritten Done = 4
+code_unwritten Unfinished = 4
 code_unwritten Memory = 4
 code_unwritten status = code_of status

@@ -65,7 +65,11 @@ fn main(rt: HostRuntime) -> Result<ExitCode, io::Error> {
     let opener = PathOpener::new(&rt, port_paths(words.as_slice(), paths)?);
     let out = FilePorts::new(alloc, io::writer(&rt), opener);
     let clock = FixedClock { now: 0 };
-    let PlainEnd { status, out } = plain_main(alloc, words.as_slice(), &mut source, out, &clock);
+    let PlainEnd {
+        status,
+        out,
+        kept: _,
+    } = plain_main(alloc, words.as_slice(), &mut source, out, &clock);
     let is_written = out.finish();
     let refusal = Refusal {
         status: status.unwrap_or(Status::Words),

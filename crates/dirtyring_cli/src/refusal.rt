@@ -30,7 +30,9 @@ pub fn last_code(status: Status, is_written: bool) -> u8
     ensures { result ≡ (if is_written then code_of status else code_unwritten status) }
 {
     match status {
-        Status::Done | Status::Memory if !is_written => exit_code(Status::Outlet),
+        Status::Done | Status::Unfinished | Status::Memory if !is_written => {
+            exit_code(Status::Outlet)
+        }
         _ => exit_code(status),
     }
 }

@@ -1,25 +1,36 @@
 -- Puts that end with a first part of one.
-use Rattle.std.proofs.Common.{◌≡◌, ℕ, ◌+◌, ◌-◌, ◌<◌, ◌≤◌, List, [], ◌++◌, length, take, drop, min, ap, sym, subst, ◌∙◌, append_assoc, inl, inr, arith, suc, zero, add-zero, add-suc, length-append}
+use Rattle.std.proofs.Common.{◌≡◌, ℕ, ◌+◌, ◌-◌, ◌<◌, ◌≤◌, List, [], ◌∷◌, ◌++◌, refl, length, take, drop, min, ap, sym, subst, ◌∙◌, append_assoc, inl, inr, arith, suc, zero, add-zero, add-suc, length-append}
+use Rattle.std.specs.Prelude.{Result, Ok, Err, OnErr}
 use Rattle.std.proofs.Math.Seq.{take-append-add, take-append_seam}
 use Rattle.std.proofs.lemmas.List.{take-append-le, take-append-drop, append-nil, length-take}
 use Rattle.dr_types.specs.declared.guest.Guest.{Guest}
+use Rattle.dr_types.specs.declared.port.Port.{Port}
 use Rattle.dr_types.specs.declared.port.Port.TheVariants.{Image, Report, Journal}
 use Rattle.dr_types.specs.Pages.{page_count}
 use Rattle.dr_types.specs.Ports.{Ports, put_at, PutsCut}
-use Rattle.dr_types.proofs.Ports.{put_twice}
+use Rattle.dr_types.proofs.Ports.{put_twice, put_none}
 use Rattle.dr_history.specs.declared.event.Event.{Event}
 use Rattle.dr_history.specs.Journal.{journal_text}
 use Rattle.dr_history.specs.Memory.{image_of, page_bytes}
 use Rattle.dr_history.specs.Report.{report_of}
-use Rattle.dr_plain.specs.Puts.{PutsPart, rest_of}
+use Rattle.dr_plain.specs.Puts.{PutsPart, texts_of}
 use Rattle.dr_plain.proofs.Images.{first_pages, next_page}
 
--- the image and the report were put, and a first part of the journal
-pub journal_cut : (guest : Guest) (past : List Event) (old drawn told new : Ports) → drawn ≡ put_at Image (image_of guest past) old
-    → told ≡ put_at Report (report_of guest past) drawn → PutsPart Journal (journal_text guest past) told new → PutsCut (rest_of guest past) old new
-journal_cut guest past old drawn told new image report part =
-    let start : told ≡ put_at Report (report_of guest past) (put_at Image (image_of guest past) old) = report ∙ ap (put_at Report (report_of guest past)) image in
-    inr (inr (inl (part.0, part.1 ∙ ap (put_at Journal (take part.0 (journal_text guest past))) start)))
+-- the report was put, and a first part of the journal
+pub journal_cut : (guest : Guest) (past : List Event) (old told new : Ports) → told ≡ put_at Report (report_of guest past) old
+    → PutsPart Journal (journal_text guest past) told new → PutsCut (texts_of guest past) old new
+journal_cut guest past old told new report part =
+    inr (inl (part.0, part.1 ∙ ap (put_at Journal (take part.0 (journal_text guest past))) report))
+
+-- the first puts were made, and of those behind them the next was cut
+pub cut_behind : (port : Port) (bytes : List ℕ) (puts : List (Port × List ℕ)) (old mid new : Ports) → mid ≡ put_at port bytes old
+    → PutsCut puts mid new → PutsCut ((port, bytes) ∷ puts) old new
+cut_behind port bytes puts old mid new put cut = inr (subst (λ (ports : Ports). PutsCut puts ports new) put cut)
+
+-- nothing more was put
+pub cut_here : (puts : List (Port × List ℕ)) (ports : Ports) → PutsCut puts ports ports
+cut_here [] ports = refl
+cut_here (p ∷ ps) ports = inl (0, sym (put_none p.0 ports))
 
 -- the first pages are a first part of more of them
 pub record Begins (front whole : List ℕ) : Type 0 where
@@ -53,15 +64,19 @@ cut_within n front next rest =
     take-append-le (length front + length (take n next)) (front ++ next) rest few ∙ take-append-add front next (length (take n next)) ∙ ap (λ xs. front ++ xs) (same_part n next)
 
 -- the put of a page ended with a first part of it, so the image did
-pub image_cut : (guest : Guest) (past : List Event) (page : ℕ) (start old new : Ports) → page < page_count guest
-    → old ≡ put_at Image (first_pages guest past page) start → PutsPart Image (page_bytes guest page past) old new
-    → PutsPart Image (image_of guest past) start new
-image_cut guest past page start old new lt is part =
+pub image_cut : (guest : Guest) (past : List Event) (page : ℕ) (bytes : List ℕ) (start old new : Ports) → page < page_count guest → bytes ≡ page_bytes guest page past
+    → old ≡ put_at Image (first_pages guest past page) start → PutsPart Image bytes old new → PutsPart Image (image_of guest past) start new
+image_cut guest past page bytes start old new lt are is part =
     let front : List ℕ = first_pages guest past page in
-    let bytes : List ℕ = page_bytes guest page past in
     let whole = begins guest past (suc page) (page_count guest) (omega (arith, lt)) in
-    let image : image_of guest past ≡ (front ++ bytes) ++ whole.rest = whole.is ∙ ap (λ xs. xs ++ whole.rest) (next_page guest past page) in (
+    let image : image_of guest past ≡ (front ++ bytes) ++ whole.rest =
+    whole.is ∙ ap (λ xs. xs ++ whole.rest) (next_page guest past page ∙ ap (λ xs. front ++ xs) (sym are)) in (
       length front + length (take part.0 bytes),
       part.1 ∙ ap (put_at Image (take part.0 bytes)) is ∙ put_twice Image front (take part.0 bytes) start
           ∙ ap (λ xs. put_at Image xs start) (sym (ap (take (length front + length (take part.0 bytes))) image ∙ cut_within part.0 front bytes whole.rest)),
     )
+
+-- what holds anyhow holds at an error
+pub on_err : {T E P : Type 0} (r : Result T E) → P → OnErr r P
+on_err (Ok x) p = tt
+on_err (Err e) p = p

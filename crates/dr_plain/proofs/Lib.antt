@@ -1,4 +1,5 @@
 pub mod Images
-pub mod Tops
-pub mod Reading
 pub mod Cuts
+pub mod Reading
+pub mod Finishing
+pub mod Tops

@@ -6,10 +6,7 @@ use Rattle.dr_io.specs.declared.reading.ReadFault.{ReadFault}
 use Rattle.dr_io.specs.declared.reading.ReadFault.TheVariants.{Failed, TooLong}
 use Rattle.dr_io.specs.Reading.{IsPartTaken, ReadsAll}
 use Rattle.std.proofs.lemmas.List.{drop_all}
-use Rattle.dr_run.specs.declared.run.RunFault.{RunFault}
-use Rattle.dr_run.specs.declared.run.RunFault.TheVariants as run
 use Rattle.dr_plain.specs.Input.{IfTold, IsDrained, IsRefusal, IsRefused, Takes, TakesFew, TakesMany, most_bytes, status_of_fault}
-use Rattle.dr_plain.specs.Top.{status_of_end}
 
 -- more bytes than the limit were there
 pub too_long : (limit : ℕ) (old : Option (List ℕ)) (before : ℕ) (r : Result (List ℕ) ReadFault) (new : Option (List ℕ)) (now : ℕ)
@@ -61,9 +58,3 @@ took_few old before r new now reads is told at =
 pub fault_takes : (why : FileFault) (old new : Option (List ℕ)) → IsDrained old new → Takes (status_of_fault why) old new
 fault_takes fault.Memory old new all = drained_part old new all
 fault_takes why old new all = all
-
--- however a migration ends, all was read before it
-pub end_takes : (end : Result (Unit {0}) RunFault) (old new : Option (List ℕ)) → IsDrained old new → Takes (status_of_end end) old new
-end_takes (Ok done) old new all = all
-end_takes (Err run.Outlet) old new all = all
-end_takes (Err run.Memory) old new all = drained_part old new all

@@ -1,95 +1,72 @@
 -- What the top call leaves.
-use Rattle.std.proofs.Common.{◌≡◌, ℕ, ◌<◌, true, List, [], ◌∷◌, length, Option, Some, Result, Ok, Err, ap, sym, subst, ◌∙◌, refl, arith, inl, inr}
-use Rattle.std.specs.Prelude.{OnOk, OnErr, if◌then◌else◌}
-use Rattle.std.specs.List.{list_any}
-use Rattle.std.proofs.lemmas.Bool.{true≢false}
+use Rattle.std.proofs.Common.{◌≡◌, ℕ, ◌<◌, List, length, Option, Some, None, Result, Ok, Err, sym, subst, ◌∙◌, refl, arith, inl, inr}
 use Rattle.dr_types.specs.declared.guest.Guest.{Guest}
 use Rattle.dr_types.specs.declared.fault.FileFault.{FileFault}
-use Rattle.dr_types.specs.declared.port.Port.TheVariants.{Stream}
 use Rattle.dr_types.specs.declared.status.Status.{Status}
-use Rattle.dr_types.specs.declared.status.Status.TheVariants.{Done, Words, GuestFile, Outlet, Source, Memory, TooLong, Unbuilt}
-use Rattle.dr_types.specs.Ports.{Ports, put_at, put_all, PutsCut}
+use Rattle.dr_types.specs.declared.status.Status.TheVariants.{Done, Words, GuestFile, Unfinished, Outlet, Source, Memory, TooLong}
+use Rattle.dr_types.specs.Ports.{Ports, Rose}
 use Rattle.dr_types.specs.Validity.{IsValid}
 use Rattle.dr_guestfile.specs.GuestTexts.{guest_of}
-use Rattle.dr_history.specs.declared.event.Event.{Event}
-use Rattle.dr_history.specs.declared.event.Event.TheVariants.{Switched}
-use Rattle.dr_history.specs.Kinds.{is_switched}
-use Rattle.dr_history.specs.Stream.{stream_of}
-use Rattle.dr_log.specs.State.{State}
-use Rattle.dr_headline.proofs.Promises.{headline, promises}
-use Rattle.dr_run.specs.declared.run.RunFault.{RunFault}
-use Rattle.dr_run.specs.Built.{is_built_for}
-use Rattle.dr_run.specs.Ended.{HasEndedEarly, IsHistoryOf}
-use Rattle.dr_run.specs.Execution.{AllLeft}
-use Rattle.dr_run.specs.Going.{ends_switched}
-use Rattle.dr_plain.specs.Input.{IsRunnable, most_bytes}
-use Rattle.dr_plain.specs.Puts.{rest_of}
-use Rattle.dr_plain.specs.Top.{EndsRun, IsCutOff, IsMigrated, Says}
+use Rattle.dr_machine.specs.States.{Left}
+use Rattle.dr_plain.specs.Input.{IsDrained, IsGuestFile, IsRead, IsRefusal, Takes, most_bytes}
+use Rattle.dr_plain.specs.Top.{EndsRun, IsMigrated, RunSays, Says, SomeMigrated}
+use Rattle.dr_plain.proofs.Reading.{drained_part}
 
-all_puts : (guest : Guest) (past : List Event) → list_any is_switched past ≡ true → (if list_any is_switched past then rest_of guest past else []) ≡ rest_of guest past
-all_puts guest past is = rw is refl
+-- the status of a run says the same of the source that its guest was read from
+pub says_run : (s : Status) (left : Option (List ℕ)) (guest : Guest) (kept : Option Left) (old new : Ports) → IsRead left guest → RunSays s guest kept old new
+    → Says s left kept old new
+says_run Done left guest kept old new read says = record { guest = guest; read = read; says = says }
+says_run Unfinished left guest kept old new read says = record { guest = guest; read = read; says = says }
+says_run Outlet left guest kept old new read says = record { guest = guest; read = read; says = says }
+says_run Memory left guest kept old new read says = inr (record { guest = guest; read = read; says = says })
+says_run s left guest kept old new read says = absurd says
+
+-- however a run ends, all was read before it
+pub takes_run : (s : Status) (left rest : Option (List ℕ)) (guest : Guest) (kept : Option Left) (old new : Ports) → IsDrained left rest → RunSays s guest kept old new
+    → Takes s left rest
+takes_run Done left rest guest kept old new all says = all
+takes_run Unfinished left rest guest kept old new all says = all
+takes_run Outlet left rest guest kept old new all says = all
+takes_run Memory left rest guest kept old new all says = drained_part left rest all
+takes_run s left rest guest kept old new all says = absurd says
+
+-- where no guest was read nothing was put
+pub says_quit : (s : Status) (left : Option (List ℕ)) (before now : ℕ) (ports : Ports) → IsRefusal s left before now → Says s left None ports ports
+says_quit (GuestFile why) left before now ports is = (record { none = refl; ports = refl }, is.0, is.1)
+says_quit Source left before now ports is = record { none = refl; ports = refl }
+says_quit Memory left before now ports is = inl (record { none = refl; ports = refl })
+says_quit TooLong left before now ports is = (record { none = refl; ports = refl }, is)
+says_quit s left before now ports is = absurd is
+
+-- a read failed only where the count of faults has risen
+pub source_rose : (s : Status) (left : Option (List ℕ)) (before now : ℕ) → IsRefusal s left before now → s ≡ Source → Rose before now
+source_rose Source left before now refusal is = refusal
+source_rose s left before now refusal is = cc
 
 both_guests : (r : Result Guest FileFault) (guest : Guest) (why : FileFault) → r ≡ Ok guest → r ≡ Err why → ⊥
 both_guests r guest why ok err = let e : Ok guest ≡ Err why = sym ok ∙ err in cc
 
-one_guest : (r : Result Guest FileFault) (a b : Guest) → r ≡ Ok a → r ≡ Ok b → a ≡ b
-one_guest r a b left right = let e : Ok a ≡ Ok b = sym left ∙ right in cc
-
-switched : (past : List Event) → ends_switched past ≡ true → list_any is_switched past ≡ true
-switched [] h = cc
-switched (Switched ∷ past) h = refl
-switched (e ∷ past) h = cc
-
--- the stream and what stands behind it were put
-pub migrated : (reads : ℕ → Type 0) (guest : Guest) (start mid end : Ports) (log : State) (r : Result (Unit {0}) RunFault) → IsValid guest → log.guest ≡ guest
-    → IsHistoryOf reads guest log.past → ends_switched log.past ≡ true → AllLeft guest log.past → mid ≡ put_at Stream (stream_of guest log.past) start
-    → OnOk r (end ≡ put_all (rest_of log.guest log.past) mid) → OnOk r (IsMigrated reads guest start end)
-migrated reads guest start mid end log (Ok done) valid same history ended left sent rest =
-    let is = switched log.past ended in
-    record {
-      past = log.past;
-      history = history;
-      switched = is;
-      executed = λ v lt. (left.left v lt).whole;
-      headline = headline guest log.past valid history.legal.0 is;
-      ports = rest ∙ ap (λ g. put_all (rest_of g log.past) mid) same ∙ ap (put_all (rest_of guest log.past)) sent
-          ∙ ap (λ ps. put_all ((Stream, stream_of guest log.past) ∷ ps) start) (sym (all_puts guest log.past is));
-    }
-migrated reads guest start mid end log (Err why) valid same history ended left sent rest = tt
-
--- the stream was put, and what stands behind it ended with a first part of a put
-pub cut_behind_stream : (reads : ℕ → Type 0) (guest : Guest) (start mid end : Ports) (log : State) (r : Result (Unit {0}) RunFault) → log.guest ≡ guest
-    → IsHistoryOf reads guest log.past → ends_switched log.past ≡ true → mid ≡ put_at Stream (stream_of guest log.past) start
-    → OnErr r (PutsCut (rest_of log.guest log.past) mid end) → OnErr r (IsCutOff reads guest start end)
-cut_behind_stream reads guest start mid end log (Ok done) same history ended sent rest = tt
-cut_behind_stream reads guest start mid end log (Err why) same history ended sent rest = record {
-  past = log.past;
-  history = history;
-  promises = promises guest log.past history.legal.0;
-  ports = inr (subst (λ ps. PutsCut ps (put_at Stream (stream_of guest log.past) start) end) (sym (all_puts guest log.past (switched log.past ended)))
-      (subst (λ (ports : Ports). PutsCut (rest_of guest log.past) ports end) sent (subst (λ (g : Guest). PutsCut (rest_of g log.past) mid end) same rest)));
+-- a guest that was read and migrated is valid
+pub some_migrated : (s : Status) (read : Option (List ℕ)) (guest : Guest) (kept : Option Left) (old new : Ports) → IsRead read guest → RunSays s guest kept old new
+    → s ≡ Done → SomeMigrated kept old new
+some_migrated Done read guest (Some left) old new file says is = record {
+  left = left;
+  is = refl;
+  valid = subst IsValid (sym says.run.same) file.valid;
+  migrated = subst (λ (g : Guest). IsMigrated g left old new) (sym says.run.same) says;
 }
+some_migrated Done read guest None old new file says is = absurd says
+some_migrated s read guest kept old new file says is = cc
 
--- the stream ended with a first part of a put
-pub cut_in_stream : (reads : ℕ → Type 0) (guest : Guest) (start end : Ports) → HasEndedEarly reads guest start end → IsCutOff reads guest start end
-cut_in_stream reads guest start end early = record {
-  past = early.past;
-  history = early.history;
-  promises = promises guest early.past early.history.legal.0;
-  ports = inl (early.length, early.told);
-}
-
--- a status whose clause holds and whose source tells a guest file that is run is no refusal
-pub runs : (reads : ℕ → Type 0) (s : Status) (left : Option (List ℕ)) (old new : Ports) (bytes : List ℕ) → Says reads s left old new → (s ≡ Words → ⊥) → left ≡ Some bytes → IsRunnable bytes → EndsRun s
-runs reads Done left old new bytes says step told run = tt
-runs reads Words left old new bytes says step told run = step refl
-runs reads (GuestFile why) left old new bytes says step told run = let no : guest_of bytes ≡ Err why = (says.2 bytes told).1 in both_guests (guest_of bytes) run.guest why run.file.1 no
-runs reads Outlet left old new bytes says step told run = tt
-runs reads Source left old new bytes says step told run = tt
-runs reads Memory left old new bytes says step told run = tt
-runs reads TooLong left old new bytes says step told run = let long : most_bytes < length bytes = says.1 bytes told in omega (arith, long, run.file.0)
-runs reads Unbuilt left old new bytes says step told run =
-    let other = says.1 in
-    let same : other.guest ≡ run.guest = one_guest (guest_of bytes) other.guest run.guest (other.file bytes told).1 run.file.1 in
-    true≢false (sym run.built ∙ ap is_built_for (sym same) ∙ other.unbuilt)
-runs reads other left old new bytes says step told run = absurd says
+-- a status whose clause holds and whose source tells a guest file is no refusal
+pub runs : (s : Status) (left : Option (List ℕ)) (kept : Option Left) (old new : Ports) (bytes : List ℕ) → Says s left kept old new → (s ≡ Words → ⊥) → left ≡ Some bytes → IsGuestFile bytes
+    → EndsRun s
+runs Done left kept old new bytes says step told file = tt
+runs Unfinished left kept old new bytes says step told file = tt
+runs Words left kept old new bytes says step told file = step refl
+runs (GuestFile why) left kept old new bytes says step told file = let no : guest_of bytes ≡ Err why = (says.2 bytes told).1 in both_guests (guest_of bytes) file.guest why file.file.1 no
+runs Outlet left kept old new bytes says step told file = tt
+runs Source left kept old new bytes says step told file = tt
+runs Memory left kept old new bytes says step told file = tt
+runs TooLong left kept old new bytes says step told file = let long : most_bytes < length bytes = says.1 bytes told in omega (arith, long, file.file.0)
+runs other left kept old new bytes says step told file = absurd says

@@ -1,15 +1,14 @@
 -- What a command says of the bytes of its source.
-use Rattle.std.specs.Prelude.{◌≡◌, ◌≢◌, ◌+◌, ℕ, ◌<◌, ◌≤◌, List, [], length, Option, Some, Ok, Err, true, false}
+use Rattle.std.specs.Prelude.{◌≡◌, ◌≢◌, ◌+◌, ℕ, ◌<◌, ◌≤◌, List, [], length, Option, Some, Ok, Err}
 use Rattle.dr_types.specs.declared.guest.Guest.{Guest}
 use Rattle.dr_types.specs.declared.fault.FileFault.{FileFault}
 use Rattle.dr_types.specs.declared.fault.FileFault.TheVariants as fault
 use Rattle.dr_types.specs.declared.status.Status.{Status}
-use Rattle.dr_types.specs.declared.status.Status.TheVariants.{Done, Words, GuestFile, Outlet, Source, Memory, TooLong, Unbuilt}
+use Rattle.dr_types.specs.declared.status.Status.TheVariants.{Done, Words, GuestFile, Unfinished, Outlet, Source, Memory, TooLong}
 use Rattle.dr_types.specs.Ports.{Rose}
 use Rattle.dr_types.specs.Validity.{IsValid}
 use Rattle.dr_io.specs.Reading.{IsPartTaken}
 use Rattle.dr_guestfile.specs.GuestTexts.{guest_of}
-use Rattle.dr_run.specs.Built.{is_built_for}
 
 -- a guest file has at most so many bytes
 abbrev pub most_bytes : ℕ
@@ -27,19 +26,10 @@ IsFileOf guest bytes = (length bytes ≤ most_bytes) × (guest_of bytes ≡ Ok g
 abbrev pub IfTold : Option (List ℕ) → (List ℕ → Type 0) → Type 0
 IfTold left P = (bytes : List ℕ) → left ≡ Some bytes → P bytes
 
--- the guest was read from the source, and is one that is run; over a source that tells nothing it is
--- some valid guest
+-- the guest was read from the source; over a source that tells nothing it is some valid guest
 pub record IsRead (left : Option (List ℕ)) (guest : Guest) : Type 0 where
   pub file : IfTold left (IsFileOf guest)
   pub valid : IsValid guest
-  pub built : is_built_for guest ≡ true
-
--- a guest was read that is valid, and is none of those that are run
-pub record IsUnbuilt (left : Option (List ℕ)) : Type 0 where
-  pub guest : Guest
-  pub file : IfTold left (IsFileOf guest)
-  pub valid : IsValid guest
-  pub unbuilt : is_built_for guest ≡ false
 
 -- where the source tells its bytes, nothing of them is left
 abbrev pub IsDrained : Option (List ℕ) → Option (List ℕ) → Type 0
@@ -62,26 +52,24 @@ abbrev pub Takes : Status → Option (List ℕ) → Option (List ℕ) → Type 0
 Takes Done left new = IsDrained left new
 Takes Words left new = new ≡ left
 Takes (GuestFile why) left new = IsDrained left new
+Takes Unfinished left new = IsDrained left new
 Takes Outlet left new = IsDrained left new
 Takes Source left new = IfTold left (λ bytes. TakesFew bytes new)
 Takes Memory left new = IfTold left (λ bytes. IsPartTaken bytes new)
 Takes TooLong left new = IfTold left (λ bytes. TakesMany bytes new)
-Takes Unbuilt left new = IsDrained left new
 Takes other left new = ⊥
 
--- the bytes are a guest file whose guest is one of those that are run
-pub record IsRunnable (bytes : List ℕ) : Type 0 where
+-- the bytes are a guest file
+pub record IsGuestFile (bytes : List ℕ) : Type 0 where
   pub guest : Guest
   pub file : IsFileOf guest bytes
-  pub built : is_built_for guest ≡ true
 
--- why no guest was read that is run
+-- why no guest was read
 abbrev pub IsRefusal : Status → Option (List ℕ) → ℕ → ℕ → Type 0
 IsRefusal (GuestFile why) left before now = (why ≢ fault.Memory) × IfTold left (IsRefused why)
 IsRefusal Source left before now = Rose before now
 IsRefusal Memory left before now = Unit {0}
 IsRefusal TooLong left before now = IfTold left (λ bytes. most_bytes < length bytes)
-IsRefusal Unbuilt left before now = IsUnbuilt left
 IsRefusal other left before now = ⊥
 
 -- the status of a guest file that was not read

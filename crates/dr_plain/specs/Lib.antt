@@ -1,3 +1,4 @@
 pub mod Input
 pub mod Puts
+pub mod Ended
 pub mod Top

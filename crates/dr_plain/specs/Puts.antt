@@ -1,29 +1,40 @@
 -- What a command puts on its four ports.
-use Rattle.std.specs.Prelude.{◌≡◌, if◌then◌else◌, ℕ, List, [], ◌∷◌, take}
-use Rattle.std.specs.List.{list_any}
+use Rattle.std.specs.Prelude.{◌≡◌, ℕ, List, [], ◌∷◌, take}
 use Rattle.dr_types.specs.declared.guest.Guest.{Guest}
 use Rattle.dr_types.specs.declared.port.Port.{Port}
 use Rattle.dr_types.specs.declared.port.Port.TheVariants as port
-use Rattle.dr_types.specs.Ports.{Ports, put_at}
+use Rattle.dr_types.specs.Ports.{Ports, put_at, Rose}
 use Rattle.dr_history.specs.declared.event.Event.{Event}
-use Rattle.dr_history.specs.Kinds.{is_switched}
 use Rattle.dr_history.specs.Memory.{image_of}
 use Rattle.dr_history.specs.Journal.{journal_text}
 use Rattle.dr_history.specs.Report.{report_of}
 use Rattle.dr_history.specs.Stream.{stream_of}
+use Rattle.dr_turns.specs.Due.{run_end}
+use Rattle.dr_turns.specs.declared.answers.RunEnd.{RunEnd}
+use Rattle.dr_turns.specs.declared.answers.RunEnd.TheVariants as end
+use Rattle.dr_plain.specs.declared.ending.PutFault.{PutFault}
+use Rattle.dr_plain.specs.declared.ending.PutFault.TheVariants as fault
+
+-- the two texts of a run, in the order in which they are put
+abbrev pub texts_of : Guest → List Event → List (Port × List ℕ)
+texts_of guest past = (port.Report, report_of guest past) ∷ (port.Journal, journal_text guest past) ∷ []
+
+-- what is put behind the stream, by where the run stands: the image only where the guest has switched over, and nothing
+-- where the run was cut off
+abbrev pub puts_behind : RunEnd → Guest → List Event → List (Port × List ℕ)
+puts_behind end.Switched guest past = (port.Image, image_of guest past) ∷ texts_of guest past
+puts_behind end.Budget guest past = texts_of guest past
+puts_behind end.Open guest past = []
+
+-- what a run to these events puts, in this order
+abbrev pub puts_of : Guest → List Event → List (Port × List ℕ)
+puts_of guest past = (port.Stream, stream_of guest past) ∷ puts_behind (run_end guest past) guest past
 
 -- a first part of the bytes was put
 abbrev pub PutsPart : Port → List ℕ → Ports → Ports → Type 0
 PutsPart at bytes old new = (n : ℕ) × (new ≡ put_at at (take n bytes) old)
 
--- what is put behind the stream
-abbrev pub rest_of : Guest → List Event → List (Port × List ℕ)
-rest_of guest past =
-    (port.Image, image_of guest past) ∷ (port.Report, report_of guest past)
-    ∷ (port.Journal, journal_text guest past) ∷ []
-
--- what a run to this history puts, in this order: nothing but the stream before the switch-over
-abbrev pub puts_of : Guest → List Event → List (Port × List ℕ)
-puts_of guest past =
-    (port.Stream, stream_of guest past)
-    ∷ (if list_any is_switched past then rest_of guest past else [])
+-- where the outlet failed its count of faults has risen
+abbrev pub IsFault : ℕ → ℕ → PutFault → Type 0
+IsFault before now fault.Outlet = Rose before now
+IsFault before now fault.Memory = Unit {0}

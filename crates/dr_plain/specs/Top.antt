@@ -1,88 +1,99 @@
 -- What a command leaves, by how it ended.
-use Rattle.std.specs.Prelude.{◌≡◌, ◌≢◌, ◌⊎◌, ℕ, ◌<◌, List, length, Option, Result, Ok, Err, true}
-use Rattle.std.specs.List.{list_any}
+use Rattle.std.specs.Prelude.{◌≡◌, ◌≢◌, ◌⊎◌, ℕ, ◌<◌, All, List, length, Option, Some, None}
 use Rattle.dr_types.specs.declared.guest.Guest.{Guest}
 use Rattle.dr_types.specs.declared.fault.FileFault.TheVariants as fault
 use Rattle.dr_types.specs.declared.status.Status.{Status}
-use Rattle.dr_types.specs.declared.status.Status.TheVariants.{Done, Words, GuestFile, Outlet, Source, Memory, TooLong, Unbuilt}
+use Rattle.dr_types.specs.declared.status.Status.TheVariants.{Done, Words, GuestFile, Unfinished, Outlet, Source, Memory, TooLong}
 use Rattle.dr_types.specs.Ports.{Ports, put_all, PutsCut}
-use Rattle.dr_types.specs.Scripts.{vcpu_count}
 use Rattle.dr_types.specs.Validity.{IsValid}
-use Rattle.dr_history.specs.declared.event.Event.{Event}
-use Rattle.dr_history.specs.Kinds.{is_switched}
-use Rattle.dr_history.specs.Execution.{ops}
-use Rattle.dr_law.specs.Length.{script_length}
+use Rattle.dr_history.specs.Legality.{IsLegal}
+use Rattle.dr_history.specs.Lines.{FitsLine}
 use Rattle.dr_headline.specs.Headline.{KeepsHeadline, KeepsPromises}
-use Rattle.dr_run.specs.Ended.{IsHistoryOf}
-use Rattle.dr_run.specs.declared.run.RunFault.{RunFault}
-use Rattle.dr_run.specs.declared.run.RunFault.TheVariants as run
-use Rattle.dr_plain.specs.Input.{IfTold, IsRead, IsRefused, IsUnbuilt, most_bytes}
+use Rattle.dr_machine.specs.States.{Left}
+use Rattle.dr_run.specs.Outcomes.{HasSpent, HasSwitched}
+use Rattle.dr_schedule.specs.Schedule.{BeginsSchedule}
+use Rattle.dr_seats.specs.Seats.{AreSeats}
+use Rattle.dr_spent.specs.Spent.{AreSpent}
+use Rattle.dr_plain.specs.Input.{IfTold, IsRead, IsRefused, most_bytes}
 use Rattle.dr_plain.specs.Puts.{puts_of}
 
--- the vCPUs have executed their scripts to the halt
-abbrev pub AllExecuted : Guest → List Event → Type 0
-AllExecuted guest past = (v : ℕ) → v < vcpu_count guest → ops v past ≡ script_length guest v
+-- What is kept is of a machine that ran this guest: its history is legal, each event has a line of its own, and its rings
+-- have pushed and reset what the events say.
+pub record IsRunOf (guest : Guest) (kept : Left) : Type 0 where
+  pub same : kept.guest ≡ guest
+  pub legal : IsLegal guest kept.past
+  pub fits : All FitsLine kept.past
+  pub seats : AreSeats guest kept.past kept.seats
 
--- the guest was run to a legal history whose times the clock reads, which ends with the switch-over
--- and keeps the headline, and all that it puts was put
-pub record IsMigrated (reads : ℕ → Type 0) (guest : Guest) (old new : Ports) : Type 0 where
-  pub past : List Event
-  pub history : IsHistoryOf reads guest past
-  pub switched : list_any is_switched past ≡ true
-  pub executed : AllExecuted guest past
-  pub headline : KeepsHeadline guest past
-  pub ports : new ≡ put_all (puts_of guest past) old
+-- the guest has switched over, by the schedule; the headline holds, and all that is to be put was put
+pub record IsMigrated (guest : Guest) (kept : Left) (old new : Ports) : Type 0 where
+  pub run : IsRunOf guest kept
+  pub switched : HasSwitched guest kept.past
+  pub headline : KeepsHeadline guest kept.past
+  pub ports : new ≡ put_all (puts_of guest kept.past) old
 
--- the guest was run to some legal history whose times the clock reads; of its puts all before one
--- were made, and a first part of that one
-pub record IsCutOff (reads : ℕ → Type 0) (guest : Guest) (old new : Ports) : Type 0 where
-  pub past : List Event
-  pub history : IsHistoryOf reads guest past
-  pub promises : KeepsPromises guest past
-  pub ports : PutsCut (puts_of guest past) old new
+-- All rounds of the guest are spent, by the schedule: each was answered with too many pages, which were copied. The
+-- promises hold, and all that is to be put was put.
+pub record IsUnfinished (guest : Guest) (kept : Left) (old new : Ports) : Type 0 where
+  pub run : IsRunOf guest kept
+  pub spent : HasSpent guest kept.past
+  pub rounds : AreSpent guest kept.past
+  pub promises : KeepsPromises guest kept.past
+  pub ports : new ≡ put_all (puts_of guest kept.past) old
 
--- the guest of the source was migrated
-pub record HasMigrated (reads : ℕ → Type 0) (left : Option (List ℕ)) (old new : Ports)
-    : Type 0 where
+-- The run was cut off: its events begin a schedule, and the promises hold. Of the puts all before one were made, and a
+-- first part of that one.
+pub record IsCutOff (guest : Guest) (kept : Left) (old new : Ports) : Type 0 where
+  pub run : IsRunOf guest kept
+  pub begins : BeginsSchedule guest kept.past
+  pub promises : KeepsPromises guest kept.past
+  pub ports : PutsCut (puts_of guest kept.past) old new
+
+-- what the status of a run says of the guest, of what is kept, and of the ports
+abbrev pub RunSays : Status → Guest → Option Left → Ports → Ports → Type 0
+RunSays Done guest (Some kept) old new = IsMigrated guest kept old new
+RunSays Unfinished guest (Some kept) old new = IsUnfinished guest kept old new
+RunSays Outlet guest (Some kept) old new = IsCutOff guest kept old new
+RunSays Memory guest (Some kept) old new = IsCutOff guest kept old new
+RunSays Memory guest None old new = new ≡ old
+RunSays s guest kept old new = ⊥
+
+-- the guest of the source was run, and its run ended with this status
+pub record HasRun (s : Status) (left : Option (List ℕ)) (kept : Option Left) (old new : Ports) : Type 0 where
   pub guest : Guest
   pub read : IsRead left guest
-  pub migrated : IsMigrated reads guest old new
+  pub says : RunSays s guest kept old new
 
--- the migration of the guest of the source was cut off
-pub record HasCutOff (reads : ℕ → Type 0) (left : Option (List ℕ)) (old new : Ports) : Type 0 where
-  pub guest : Guest
-  pub read : IsRead left guest
-  pub cut : IsCutOff reads guest old new
+-- no guest was run: nothing is kept, and nothing was put
+pub record HasQuit (kept : Option Left) (old new : Ports) : Type 0 where
+  pub none : kept ≡ None
+  pub ports : new ≡ old
+
+-- what a status says of the source's bytes, of what is kept, and of the ports
+abbrev pub Says : Status → Option (List ℕ) → Option Left → Ports → Ports → Type 0
+Says Done left kept old new = HasRun Done left kept old new
+Says Unfinished left kept old new = HasRun Unfinished left kept old new
+Says Outlet left kept old new = HasRun Outlet left kept old new
+Says Memory left kept old new = HasQuit kept old new ⊎ HasRun Memory left kept old new
+Says Words left kept old new = HasQuit kept old new
+Says Source left kept old new = HasQuit kept old new
+Says (GuestFile why) left kept old new =
+    HasQuit kept old new × (why ≢ fault.Memory) × IfTold left (IsRefused why)
+Says TooLong left kept old new = HasQuit kept old new × IfTold left (λ bytes. most_bytes < length bytes)
+Says other left kept old new = ⊥
 
 -- some valid guest was migrated, whatever the source tells
-pub record SomeMigrated (reads : ℕ → Type 0) (old new : Ports) : Type 0 where
-  pub guest : Guest
-  pub valid : IsValid guest
-  pub migrated : IsMigrated reads guest old new
+pub record SomeMigrated (kept : Option Left) (old new : Ports) : Type 0 where
+  pub left : Left
+  pub is : kept ≡ Some left
+  pub valid : IsValid left.guest
+  pub migrated : IsMigrated left.guest left old new
 
--- what a status says of the source's bytes and of the ports
-abbrev pub Says : (ℕ → Type 0) → Status → Option (List ℕ) → Ports → Ports → Type 0
-Says reads Done left old new = HasMigrated reads left old new
-Says reads Words left old new = new ≡ old
-Says reads (GuestFile why) left old new =
-    (new ≡ old) × (why ≢ fault.Memory) × IfTold left (IsRefused why)
-Says reads Outlet left old new = HasCutOff reads left old new
-Says reads Source left old new = new ≡ old
-Says reads Memory left old new = (new ≡ old) ⊎ HasCutOff reads left old new
-Says reads TooLong left old new = (new ≡ old) × IfTold left (λ bytes. most_bytes < length bytes)
-Says reads Unbuilt left old new = (new ≡ old) × IsUnbuilt left
-Says reads other left old new = ⊥
-
--- how a command may end whose guest is one of those that are run
+-- how a command may end whose source tells a guest file
 abbrev pub EndsRun : Status → Type 0
 EndsRun Done = Unit {0}
+EndsRun Unfinished = Unit {0}
 EndsRun Outlet = Unit {0}
 EndsRun Source = Unit {0}
 EndsRun Memory = Unit {0}
 EndsRun other = ⊥
-
--- how a migration ended, as a status
-abbrev pub status_of_end : Result (Unit {0}) RunFault → Status
-status_of_end (Ok done) = Done
-status_of_end (Err run.Outlet) = Outlet
-status_of_end (Err run.Memory) = Memory

@@ -3,7 +3,6 @@ ghost use Rattle.dr_plain.specs.Input.{IsDrained, IsRead, IsRefusal, Takes, stat
 
 use dr_guestfile::read_guest;
 use dr_io::{ReadFault, Source, read_all};
-use dr_run::is_built;
 use dr_types::limits::MOST_GUEST_BYTES;
 use dr_types::{FileFault, Guest, Status};
 use std::alloc::Global;
@@ -18,8 +17,7 @@ fn status_of(why: FileFault) -> Status
     }
 }
 
-/// Reads a source to its end, and the guest that its bytes say. The status says why there is none
-/// that is run.
+/// Reads a source to its end, and the guest that its bytes say. The status says why there is none.
 pub fn read_input<S: Source>(alloc: Global, source: &mut S) -> Result<Guest, Status>
     ensures read { IfOk result (λ guest. IsRead (S.left source.old) guest) }
     ensures drained { OnOk result (IsDrained (S.left source.old) (S.left source.new)) }
@@ -33,13 +31,8 @@ pub fn read_input<S: Source>(alloc: Global, source: &mut S) -> Result<Guest, Sta
         Err(ReadFault::TooLong) => return Err(Status::TooLong),
         Err(ReadFault::Memory) => return Err(Status::Memory),
     };
-    let guest = match read_guest(alloc, bytes.as_slice()) {
-        Ok(guest) => guest,
-        Err(why) => return Err(status_of(why)),
-    };
-    if is_built(&guest) {
-        Ok(guest)
-    } else {
-        Err(Status::Unbuilt)
+    match read_guest(alloc, bytes.as_slice()) {
+        Ok(guest) => Ok(guest),
+        Err(why) => Err(status_of(why)),
     }
 }

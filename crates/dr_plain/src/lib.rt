@@ -6,5 +6,6 @@ mod ending;
 mod input;
 mod journal;
 mod plain;
+mod step;
 
 pub use plain::{PlainEnd, plain_main};

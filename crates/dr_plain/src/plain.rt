@@ -1,79 +1,41 @@
-ghost use Rattle.std.specs.Prelude.{◌≡◌, ◌↔◌, true, false, Some, IsSome, IfSome, OnOk, OnErr, IfErr, map, string_bytes};
+ghost use Rattle.std.specs.Prelude.{◌≡◌, ◌↔◌, true, false, All, Some, None, IsSome, IfSome, map, string_bytes};
 ghost use Rattle.dr_types.specs.Ports.{Rose};
-ghost use Rattle.dr_types.specs.Validity.{IsValid};
-ghost use Rattle.dr_run.specs.Going.{IsFault};
-ghost use Rattle.dr_run.specs.Built.{is_built_for};
-ghost use Rattle.dr_plain.specs.Input.{IfTold, IsRunnable, Takes};
-ghost use Rattle.dr_plain.specs.Top.{EndsRun, IsCutOff, IsMigrated, Says, SomeMigrated, status_of_end};
+ghost use Rattle.dr_history.specs.Times.{times};
+ghost use Rattle.dr_plain.specs.Input.{IfTold, IsGuestFile, Takes};
+ghost use Rattle.dr_plain.specs.Top.{EndsRun, Says, SomeMigrated};
 ghost use Rattle.dr_words.specs.Words.{is_step};
 
-use crate::ending::put_rest;
 use crate::input::read_input;
+use crate::step::{StepEnd, step};
 use dr_io::{Clock, Outlet, Source};
-use dr_run::{RunEnd, RunFault, run_halting};
-use dr_types::{Guest, Status};
+use dr_machine::Kept;
+use dr_types::Status;
 use dr_words::is_step;
 use std::alloc::Global;
 
-/// How a command ended, with the outlet that was handed in.
+/// How a command ended, with the outlet that was handed in, and what is kept of the machine of its
+/// run.
 #[derive(Drop)]
 pub struct PlainEnd<O: Outlet> {
     pub status: Option<Status>,
     pub out: O,
+    pub kept: Option<Kept>,
 }
 
-/// How a migration ended, with its outlet.
-#[derive(Drop)]
-struct Migrated<O: Outlet> {
-    end: Result<(), RunFault>,
-    out: O,
-}
-
-/// Runs a guest, and puts what it leaves behind its stream.
-fn migrate<O: Outlet, C: Clock>(alloc: Global, guest: &Guest, out: O, clock: &C) -> Migrated<O>
-    requires valid { IsValid guest.now }
-    requires built { is_built_for guest.now ≡ true }
-    ensures migrated { OnOk result.end
-        (IsMigrated (C.reads clock.now) guest.now (O.told out) (O.told result.out)) }
-    ensures cut { OnErr result.end
-        (IsCutOff (C.reads clock.now) guest.now (O.told out) (O.told result.out)) }
-    ensures fault { IfErr result.end (IsFault (O.faults out) (O.faults result.out)) }
-{
-    let RunEnd { end, mut out } = run_halting(alloc, guest, out, clock);
-    let log = match end {
-        Ok(log) => log,
-        Err(fault) => {
-            return Migrated {
-                end: Err(fault),
-                out,
-            };
-        }
-    };
-    let end = put_rest(alloc, &log, &mut out);
-    Migrated { end, out }
-}
-
-fn ended<O: Outlet>(status: Status, out: O) -> PlainEnd<O>
-    ensures { result ≡ record { status = Some status; out = out } }
+/// A command that ran no guest.
+fn quit<O: Outlet>(status: Status, out: O) -> PlainEnd<O>
+    ensures { result ≡ record { status = Some status; out = out; kept = None } }
 {
     PlainEnd {
         status: Some(status),
         out,
-    }
-}
-
-fn status_of(end: Result<(), RunFault>) -> Status
-    ensures { result ≡ status_of_end end }
-{
-    match end {
-        Ok(()) => Status::Done,
-        Err(RunFault::Outlet) => Status::Outlet,
-        Err(RunFault::Memory) => Status::Memory,
+        kept: None,
     }
 }
 
 /// Does a command that needs no threads: `step` reads a guest file from the source, migrates the
 /// guest, and puts the stream, the image, the report and the journal. Other words are no command.
+#[tactic(auto, using(crate::proofs::Tops::says_run, crate::proofs::Tops::takes_run))]
 pub fn plain_main<S: Source, O: Outlet, C: Clock>(
     alloc: Global,
     words: &[String],
@@ -85,24 +47,29 @@ pub fn plain_main<S: Source, O: Outlet, C: Clock>(
     ensures words { (result.status ≡ Some Status.Words)
         ↔ (is_step (map string_bytes words.now) ≡ false) }
     ensures says { IfSome result.status (λ s.
-        Says (C.reads clock.now) s (S.left src.old) (O.told out) (O.told result.out)) }
+        Says s (S.left src.old) result.kept (O.told out) (O.told result.out)) }
+    ensures times { IfSome result.kept (λ k. All (C.reads clock.now) (times k.past)) }
     ensures takes { IfSome result.status (λ s. Takes s (S.left src.old) (S.left src.new)) }
     ensures untold { result.status ≡ Some Status.Done
-        → SomeMigrated (C.reads clock.now) (O.told out) (O.told result.out) }
+        → SomeMigrated result.kept (O.told out) (O.told result.out) }
     ensures ends { is_step (map string_bytes words.now) ≡ true → IfTold (S.left src.old) (λ bytes.
-        IsRunnable bytes → IfSome result.status EndsRun) }
+        IsGuestFile bytes → IfSome result.status EndsRun) }
     ensures outlet { result.status ≡ Some Status.Outlet
         → Rose (O.faults out) (O.faults result.out) }
     ensures source { result.status ≡ Some Status.Source
         → Rose (S.faults src.old) (S.faults src.new) }
 {
     if !is_step(words) {
-        return ended(Status::Words, out);
+        return quit(Status::Words, out);
     }
     let guest = match read_input(alloc, src) {
         Ok(guest) => guest,
-        Err(status) => return ended(status, out),
+        Err(status) => return quit(status, out),
     };
-    let Migrated { end, out } = migrate(alloc, &guest, out, clock);
-    ended(status_of(end), out)
+    let StepEnd { status, out, kept } = step(alloc, guest, out, clock);
+    PlainEnd {
+        status: Some(status),
+        out,
+        kept,
+    }
 }

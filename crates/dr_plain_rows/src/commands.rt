@@ -33,11 +33,20 @@ fn is_empty(out: &PortBook) -> bool {
     true
 }
 
-/// A command on a file ends so, and puts nothing unless it is done. `false` also where memory is
-/// refused.
+/// A run came to its end.
+fn is_run(status: Status) -> bool {
+    status == Status::Done || status == Status::Unfinished
+}
+
+/// A command on a file ends so; where it is a run that came to its end something was put and is kept,
+/// else nothing. `false` also where memory is refused.
 pub fn ends(alloc: Global, words: &[&str], file: &[u8], status: Status) -> bool {
     match command(alloc, words, file) {
-        Ok(end) => end.status == Some(status) && is_empty(&end.out) == (status != Status::Done),
+        Ok(end) => {
+            let some = end.kept.is_some() && !is_empty(&end.out);
+            let none = end.kept.is_none() && is_empty(&end.out);
+            end.status == Some(status) && (if is_run(status) { some } else { none })
+        }
         Err(_) => false,
     }
 }

@@ -4,9 +4,13 @@
 #[cfg(test)]
 mod cut_rows;
 #[cfg(test)]
+mod live_rows;
+#[cfg(test)]
 mod round_rows;
 #[cfg(test)]
 mod runs;
+#[cfg(test)]
+mod sleep_rows;
 #[cfg(test)]
 mod small_rows;
 #[cfg(test)]

@@ -35,12 +35,14 @@ fn writes(alloc: Global, file: &str, from: u64, journal: &str) -> Result<bool, A
     Ok(end.out.bytes(Port::Journal) == journal.as_bytes())
 }
 
+/// The first step waits for the halt, the second begins at 42; between the answers a page is copied,
+/// and rounds are asked.
 #[test]
-fn reads_the_clock_at_each_time(rt: HostRuntime) -> Result<(), Fail> {
+fn reads_the_clock_at_each_step(rt: HostRuntime) -> Result<(), Fail> {
     let alloc = rt.alloc();
     let file = guest_file(alloc, "")?;
-    let first = "h 0 0\nx 0 halted\nstart 41\nask 1\nsync 1 42 1 0\ncopy 1 0\n";
-    let rest = "ask 2\nsync 2 43 0\nstop\nask 3\nsync 3 44 0\nswitched\n";
+    let first = "h 0 0\nx 0 halted\nstart 42\nask 1\nsync 1 44 1 0\ncopy 1 0\n";
+    let rest = "ask 2\nsync 2 47 0\nstop\nask 3\nsync 3 50 0\nswitched\n";
     let expected = joined(alloc, &[&file, "journal\n", first, rest, "end\n"])?;
     assert!(rt; writes(alloc, &file, 41, &expected)?, "the journal");
     Ok(())

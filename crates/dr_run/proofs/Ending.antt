@@ -1,51 +1,44 @@
--- What a run leaves that ended early.
-use Rattle.std.proofs.Common.{◌≡◌, ℕ, List, [], refl, ap, sym, subst, ◌∙◌, take}
-use Rattle.std.specs.Prelude.{All}
-use Rattle.std.proofs.lemmas.List.Elements.{All-nil}
+-- What a drive leaves, by its end.
+use Rattle.std.proofs.Common.{◌≡◌, ℕ, true, List, [], ◌∷◌, Result, Ok, Err, All, refl, sym, subst, arith}
+use Rattle.std.specs.Prelude.{IfOk, OnOk, OnErr}
+use Rattle.std.specs.List.{list_any}
 use Rattle.dr_types.specs.declared.guest.Guest.{Guest}
-use Rattle.dr_types.specs.declared.port.Port.TheVariants.{Stream}
-use Rattle.dr_types.specs.Ports.{Ports, put_at}
-use Rattle.dr_types.proofs.Ports.{put_none}
 use Rattle.dr_history.specs.declared.event.Event.{Event}
-use Rattle.dr_history.specs.Kinds.{is_copied}
-use Rattle.dr_history.specs.Lookback.{count}
+use Rattle.dr_history.specs.declared.event.Event.TheVariants.{Switched}
+use Rattle.dr_history.specs.Kinds.{is_switched}
 use Rattle.dr_history.specs.Legality.{IsLegalSoFar}
-use Rattle.dr_history.specs.Lines.{FitsLine}
-use Rattle.dr_history.specs.Stream.{stream_of}
 use Rattle.dr_history.specs.Times.{times}
-use Rattle.dr_run.specs.Ended.{HasEndedEarly, IsHistoryOf}
-use Rattle.dr_run.specs.Going.{Going, IsCut, IsSent, IsUnlogged}
-use Rattle.dr_run.proofs.Calm.{rests}
+use Rattle.dr_law.proofs.Kept.{unswitched}
+use Rattle.dr_turns.specs.declared.answers.RunEnd.{RunEnd}
+use Rattle.dr_turns.specs.declared.answers.RunEnd.TheVariants as end
+use Rattle.dr_bench.specs.declared.bench.BenchFault.{BenchFault}
+use Rattle.dr_bench.specs.declared.bench.BenchFault.TheVariants as fault
+use Rattle.dr_schedule.specs.Schedule.{AtRest}
+use Rattle.dr_schedule.proofs.Scheduled.{rests_first, rest_is_scheduled}
+use Rattle.dr_migrate.specs.Driving.{IsCutOff, IsEnd, StaysRead, StaysScheduled}
+use Rattle.dr_run.specs.Outcomes.{EndsAs, end_of_drive, ends_switched}
 
--- a history in which no ring was used may end anywhere
-pub is_history : (reads : ℕ → Type 0) (guest : Guest) (past : List Event) → guest.settings.quota ≡ 0 → IsUnlogged past → IsLegalSoFar guest past → All FitsLine past → All reads (times past) → IsHistoryOf reads guest past
-is_history reads guest past quota unlogged legal fits read = record {
-  legal = (legal, rests guest past quota unlogged);
-  fits = fits;
-  times = read;
-}
+-- nothing follows the switch-over
+last_is : (guest : Guest) (past : List Event) → IsLegalSoFar guest past → list_any is_switched past ≡ true → ends_switched past ≡ true
+last_is guest [] legal is = cc
+last_is guest (Switched ∷ past) legal is = refl
+last_is guest (e ∷ past) legal is = let no = unswitched guest past e legal.0 in cc
 
--- before the first event all is sent
-pub none_sent : (it : Going) (start : Ports) → it.past ≡ [] → it.told ≡ start → it.pages ≡ 0 → IsSent start it
-none_sent it start past told pages = record {
-  told = told ∙ sym (put_none Stream start) ∙ ap (λ xs. put_at Stream (stream_of it.guest xs) start) (sym past);
-  pages = pages ∙ ap (count is_copied) (sym past);
-}
+rests_at : (guest : Guest) (first : List Event) → first ≡ [] → AtRest guest first
+rests_at guest first none = subst (AtRest guest) (sym none) (rests_first guest)
 
--- nothing was done
-pub none_done : (reads : ℕ → Type 0) (guest : Guest) (start : Ports) → guest.settings.quota ≡ 0 → HasEndedEarly reads guest start start
-none_done reads guest start quota = record {
-  past = [];
-  history = is_history reads guest [] quota (record { all = refl }) tt (All-nil FitsLine) (All-nil reads);
-  length = 0;
-  told = sym (put_none Stream start);
-}
+-- the events are as the end of the drive says, which began before any
+pub ends_as : (guest : Guest) (first past : List Event) (r : Result RunEnd BenchFault) → first ≡ [] → IsLegalSoFar guest past → IfOk r (IsEnd guest past)
+    → OnOk r (StaysScheduled guest first past) → OnErr r (IsCutOff guest first past) → EndsAs (end_of_drive r) guest past
+ends_as guest first past (Ok end.Switched) none legal is stays cut =
+    record { last = last_is guest past legal is; scheduled = rest_is_scheduled guest past (stays.rests (rests_at guest first none)) }
+ends_as guest first past (Ok end.Budget) none legal is stays cut =
+    record { spent = is; scheduled = rest_is_scheduled guest past (stays.rests (rests_at guest first none)) }
+ends_as guest first past (Ok end.Open) none legal is stays cut = absurd is
+ends_as guest first past (Err fault.Sink) none legal is stays cut = cut.begins (rests_at guest first none)
+ends_as guest first past (Err fault.Memory) none legal is stays cut = cut.begins (rests_at guest first none)
 
--- the run was cut off
-pub ended_early : (reads : ℕ → Type 0) (guest : Guest) (it : Going) (start : Ports) → guest.settings.quota ≡ 0 → it.guest ≡ guest → IsUnlogged it.past → IsLegalSoFar it.guest it.past → All FitsLine it.past → All reads (times it.past) → IsCut start it → HasEndedEarly reads guest start it.told
-ended_early reads guest it start quota same unlogged legal fits read cut = record {
-  past = it.past;
-  history = is_history reads guest it.past quota unlogged (subst (λ (g : Guest). IsLegalSoFar g it.past) same legal) fits read;
-  length = cut.length;
-  told = cut.told ∙ ap (λ g. put_at Stream (take cut.length (stream_of g it.past)) start) same;
-}
+-- where the times that a drive added are read from a clock, all are
+pub all_read : (reads : ℕ → Type 0) (first past : List Event) → first ≡ [] → StaysRead reads first past → All reads (times past)
+all_read reads first past none stays =
+    stays.all (subst (λ (xs : List Event). All reads (times xs)) (sym none) (λ k d lt. absurd (omega (arith, lt))))

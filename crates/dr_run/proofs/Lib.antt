@@ -1,6 +1,2 @@
-pub mod Sent
-pub mod Calm
-pub mod Executing
-pub mod Rounding
-pub mod Steps
+pub mod Starting
 pub mod Ending

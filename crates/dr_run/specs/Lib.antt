@@ -1,5 +1,1 @@
-pub mod Built
-pub mod Going
-pub mod Execution
-pub mod Rounds
-pub mod Ended
+pub mod Outcomes

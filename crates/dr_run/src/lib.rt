@@ -1,13 +1,9 @@
-//! The run of a guest whose vCPUs halt before logging starts: from the first op to the switch-over,
-//! each event legal by proof, with the stream's records put as they arise.
+//! A whole run on one thread: from the rings of a guest to its switch-over, or to the end of its
+//! rounds.
 #![tactic(auto)]
 
-mod built;
-mod execution;
-mod halting;
-mod migration;
+mod outcome;
 mod run;
 
-pub use built::is_built;
-pub use halting::{RunEnd, run_halting};
-pub use run::RunFault;
+pub use outcome::{Outcome, OutcomeEnd, RunOutcome};
+pub use run::step_run;

@@ -1,76 +1,156 @@
-ghost use Rattle.std.specs.Prelude.{◌≡◌, ◌≤◌, ◌∷◌, true, OnOk, OnErr, IfErr};
-ghost use Rattle.dr_history.specs.Lines.{FitsLine};
+ghost use Rattle.std.specs.Prelude.{◌≡◌, ◌≤◌, [], false, All, None, IfOk, IfSome, length};
+ghost use Rattle.dr_types.specs.Ports.{Rose};
+ghost use Rattle.dr_types.specs.Scripts.{vcpu_count};
+ghost use Rattle.dr_types.specs.Validity.{IsValid};
+ghost use Rattle.dr_history.specs.Legality.{IsLegal};
+ghost use Rattle.dr_history.specs.Stream.{stream_of};
 ghost use Rattle.dr_history.specs.Times.{times};
-ghost use Rattle.dr_may.specs.May.{MayFollow};
-ghost use Rattle.dr_run.specs.Going.{Going, Goes, GetsCut, IsFault, IsSilent, StaysSent, is_unlogged};
+ghost use Rattle.dr_migrate.specs.Driving.{GoesOn};
+ghost use Rattle.dr_settle.specs.Step.{AreInStep};
+ghost use Rattle.dr_run.specs.Outcomes.{EndsAs, HasNone, SendsAs};
 
-use dr_history::Event;
-use dr_io::Outlet;
-use dr_log::Log;
-use dr_stream::Sender;
-use dr_types::Memory;
+use crate::outcome::{Outcome, OutcomeEnd, RunOutcome, end_of};
+use dr_bench::Bench;
+use dr_collector::Collector;
+use dr_io::{Clock, Outlet};
+use dr_machine::{Machine, Rig, new_rig};
+use dr_migrate::drive;
+use dr_ring::Name;
+use dr_rings::{RingSet, Rings};
+use dr_types::{Guest, Memory};
 use std::alloc::Global;
-use std::marker::Model;
 
-/// Why a run ended before the switch-over.
-#[derive(Clone, Copy, Debug, PartialEq, Eq)]
-pub enum RunFault {
-    /// A put of the stream failed.
-    Outlet,
-    /// An allocation was refused.
-    Memory,
+/// What a run needs: a machine of which nothing has happened, its rings, and a collector of them.
+#[derive(Drop)]
+struct Ready<N: Name> {
+    machine: Machine<N>,
+    rings: Rings<N>,
+    collector: Collector<N>,
 }
 
-impl From<Memory> for RunFault {
-    ghost use Rattle.std.specs.Prelude.{◌≡◌};
-    ghost use Rattle.dr_run.specs.declared.run.RunFault.TheVariants.{Memory};
+/// Makes all that a run needs.
+fn make_ready<N: Name>(alloc: Global, guest: Guest, set: RingSet) -> Result<Ready<N>, Memory>
+    requires guest { guest ≡ N.guest }
+    requires valid { IsValid guest }
+    requires set { N.rings ≡ set.rings }
+    requires one_each { length set.rings ≡ vcpu_count guest }
+    requires size { set.size ≡ guest.settings.ring }
+    ensures past { IfOk result (λ r. r.machine.past ≡ []) }
+    ensures over { IfOk result (λ r. r.machine.over ≡ false) }
+    ensures in_step { IfOk result (λ r. AreInStep N.guest [] r.collector) }
+{
+    let Rig {
+        rings,
+        machine,
+        users,
+    } = new_rig(alloc, guest, set)?;
+    let collector = Collector::new(alloc, users)?;
+    Ok(Ready {
+        machine,
+        rings,
+        collector,
+    })
+}
 
-    ghost from_gives = { λ _ fault. fault ≡ Memory };
+/// Drives a bench of which nothing has happened to its end.
+fn drive_to_end<N: Name, O: Outlet, C: Clock>(
+    alloc: Global,
+    bench: &mut Bench<N, O>,
+    collector: &mut Collector<N>,
+    rings: &Rings<N>,
+    clock: &C,
+) -> OutcomeEnd
+    requires first { bench.old.past ≡ [] }
+    requires going { GoesOn N.guest bench.old collector.old }
+    ensures ends { EndsAs result N.guest bench.new.past }
+    ensures sends { SendsAs result (stream_of N.guest bench.new.past) N.ports bench.new.told }
+    ensures times { All (C.reads clock.now) (times bench.new.past) }
+    ensures later { bench.old.faults ≤ bench.new.faults }
+    ensures risen { result ≡ OutcomeEnd.Sink → Rose N.faults bench.new.faults }
+{
+    let end = end_of(drive(alloc, bench, collector, rings, clock));
+    bench.keeps();
+    end
+}
 
-    fn from(_error: Memory) -> RunFault {
-        RunFault::Memory
+/// Drives what is ready to its end.
+fn run<N: Name, O: Outlet, C: Clock>(
+    alloc: Global,
+    ready: Ready<N>,
+    out: O,
+    clock: &C,
+) -> RunOutcome<N, O>
+    requires past { ready.machine.past ≡ [] }
+    requires over { ready.machine.over ≡ false }
+    requires in_step { AreInStep N.guest [] ready.collector }
+    requires ports { O.told out ≡ N.ports }
+    requires faults { O.faults out ≡ N.faults }
+    ensures none { result.outcome.machine ≡ None
+        → HasNone result.outcome.end (O.told out) (O.told result.out) }
+    ensures legal { IfSome result.outcome.machine (λ m. IsLegal N.guest m.past) }
+    ensures ends { IfSome result.outcome.machine (λ m.
+        EndsAs result.outcome.end N.guest m.past) }
+    ensures sends { IfSome result.outcome.machine (λ m.
+        SendsAs result.outcome.end (stream_of N.guest m.past) (O.told out) (O.told result.out)) }
+    ensures times { IfSome result.outcome.machine (λ m. All (C.reads clock.now) (times m.past)) }
+    ensures later { O.faults out ≤ O.faults result.out }
+    ensures risen { result.outcome.end ≡ OutcomeEnd.Sink
+        → Rose (O.faults out) (O.faults result.out) }
+{
+    let Ready {
+        machine,
+        rings,
+        mut collector,
+    } = ready;
+    let mut bench = Bench::new(machine, out);
+    let end = drive_to_end(alloc, &mut bench, &mut collector, &rings, clock);
+    let (machine, out) = bench.into_parts();
+    RunOutcome {
+        outcome: Outcome {
+            machine: Some(machine),
+            end,
+        },
+        out,
     }
 }
 
-/// A guest that runs: the keeper of its events, and the sender of its stream.
-#[derive(Drop)]
-pub struct Run<O: Outlet> {
-    pub(crate) alloc: Global,
-    pub(crate) log: Log,
-    pub(crate) sender: Sender<O>,
-}
-
-impl<O: Outlet> Model for Run<O> {
-    ghost use Rattle.dr_run.specs.Going.{Going};
-
-    ghost Value = { Going };
-
-    ghost view = { λ r. record {
-      guest = r.log.guest;
-      past = r.log.past;
-      told = r.sender.told;
-      faults = r.sender.faults;
-      pages = r.sender.pages;
-    } };
-}
-
-impl<O: Outlet> Run<O> {
-    /// Takes an event that breaks no rule and puts nothing on the stream.
-    #[tactic(auto, using(crate::proofs::Sent::silent_stays, crate::proofs::Sent::still_cut, crate::proofs::Calm::event_goes, crate::proofs::Calm::same_goes, crate::proofs::Calm::silent_times))]
-    pub(crate) fn take(&mut self, e: Event) -> Result<(), RunFault>
-        requires fits { FitsLine e }
-        requires follows { MayFollow self.old.guest self.old.past e }
-        requires silent { IsSilent e }
-        requires unlogged { is_unlogged e ≡ true }
-        ensures past { OnOk result (self.new.past ≡ e ∷ self.old.past) }
-        ensures sent { OnOk result (StaysSent self.old self.new) }
-        ensures cut { OnErr result (GetsCut self.old self.new) }
-        ensures goes { Goes self.old self.new }
-        ensures times { times self.new.past ≡ times self.old.past }
-        ensures pages { self.new.pages ≡ self.old.pages }
-        ensures fault { IfErr result (IsFault self.old.faults self.new.faults) }
-    {
-        self.log.append(e)?;
-        Ok(())
+/// Runs a guest on one thread, by the schedule, to its switch-over or to the end of its rounds, and
+/// puts its stream. Nothing but a put that fails or want of memory ends it earlier. The machine of
+/// the run comes back; there is none only for want of memory before the first event.
+pub fn step_run<N: Name, O: Outlet, C: Clock>(
+    alloc: Global,
+    guest: Guest,
+    set: RingSet,
+    out: O,
+    clock: &C,
+) -> RunOutcome<N, O>
+    requires guest { guest ≡ N.guest }
+    requires valid { IsValid guest }
+    requires set { N.rings ≡ set.rings }
+    requires one_each { length set.rings ≡ vcpu_count guest }
+    requires size { set.size ≡ guest.settings.ring }
+    requires ports { O.told out ≡ N.ports }
+    requires faults { O.faults out ≡ N.faults }
+    ensures none { result.outcome.machine ≡ None
+        → HasNone result.outcome.end (O.told out) (O.told result.out) }
+    ensures legal { IfSome result.outcome.machine (λ m. IsLegal N.guest m.past) }
+    ensures ends { IfSome result.outcome.machine (λ m.
+        EndsAs result.outcome.end N.guest m.past) }
+    ensures sends { IfSome result.outcome.machine (λ m.
+        SendsAs result.outcome.end (stream_of N.guest m.past) (O.told out) (O.told result.out)) }
+    ensures times { IfSome result.outcome.machine (λ m. All (C.reads clock.now) (times m.past)) }
+    ensures later { O.faults out ≤ O.faults result.out }
+    ensures risen { result.outcome.end ≡ OutcomeEnd.Sink
+        → Rose (O.faults out) (O.faults result.out) }
+{
+    match make_ready(alloc, guest, set) {
+        Ok(ready) => run(alloc, ready, out, clock),
+        Err(_) => RunOutcome {
+            outcome: Outcome {
+                machine: None,
+                end: OutcomeEnd::Memory,
+            },
+            out,
+        },
     }
 }

@@ -1,0 +1,79 @@
+-- What a run leaves that ended, once the puts behind it are made.
+use Rattle.std.proofs.Common.{◌≡◌, ℕ, true, List, [], ◌∷◌, Some, Result, Ok, Err, refl, sym, subst}
+use Rattle.std.specs.Prelude.{IfOk, OnOk, OnErr, IfErr}
+use Rattle.std.specs.List.{list_any}
+use Rattle.dr_types.specs.declared.guest.Guest.{Guest}
+use Rattle.dr_types.specs.declared.status.Status.{Status}
+use Rattle.dr_types.specs.declared.status.Status.TheVariants.{Done, Unfinished, Outlet}
+use Rattle.dr_types.specs.declared.port.Port.TheVariants.{Stream}
+use Rattle.dr_types.specs.Ports.{Ports, put_all, PutsCut, Rose}
+use Rattle.dr_types.specs.Validity.{IsValid}
+use Rattle.dr_history.specs.declared.event.Event.{Event}
+use Rattle.dr_history.specs.declared.event.Event.TheVariants.{Switched}
+use Rattle.dr_history.specs.Kinds.{is_switched}
+use Rattle.dr_history.specs.Stream.{stream_of}
+use Rattle.dr_headline.proofs.Promises.{headline, promises}
+use Rattle.dr_machine.specs.States.{Left}
+use Rattle.dr_run.specs.declared.outcome.OutcomeEnd.{OutcomeEnd}
+use Rattle.dr_run.specs.declared.outcome.OutcomeEnd.TheVariants as outcome
+use Rattle.dr_run.specs.Outcomes.{EndsAs, SendsAs, ends_switched}
+use Rattle.dr_schedule.specs.Schedule.{BeginsSchedule}
+use Rattle.dr_schedule.proofs.Scheduled.{scheduled_begins}
+use Rattle.dr_turns.specs.Due.{run_end}
+use Rattle.dr_turns.specs.declared.answers.RunEnd.{RunEnd}
+use Rattle.dr_turns.specs.declared.answers.RunEnd.TheVariants as end
+use Rattle.dr_spent.proofs.Told.{spent_is_told}
+use Rattle.dr_plain.proofs.Cuts.{cut_behind}
+use Rattle.dr_plain.specs.declared.ending.PutFault.{PutFault}
+use Rattle.dr_plain.specs.declared.ending.PutFault.TheVariants as fault
+use Rattle.dr_plain.specs.Ended.{EndsWhole, status_of_end}
+use Rattle.dr_plain.specs.Puts.{IsFault, puts_behind, puts_of}
+use Rattle.dr_plain.specs.Top.{IsRunOf, IsCutOff, RunSays}
+
+-- there is a switch-over where the last event is one
+pub some_switched : (past : List Event) → ends_switched past ≡ true → list_any is_switched past ≡ true
+some_switched [] h = cc
+some_switched (Switched ∷ past) h = refl
+some_switched (e ∷ past) h = cc
+
+-- then the run stands at its switch-over
+stands_switched : (guest : Guest) (past : List Event) → ends_switched past ≡ true → run_end guest past ≡ end.Switched
+stands_switched guest past h = rw (some_switched past h) refl
+
+-- the stream was put, and of the puts behind the switch-over one was cut
+pub cut_switched : (guest : Guest) (past : List Event) (old mid new : Ports) → EndsAs outcome.Switched guest past
+    → SendsAs outcome.Switched (stream_of guest past) old mid → PutsCut (puts_behind end.Switched guest past) mid new → PutsCut (puts_of guest past) old new
+cut_switched guest past old mid new ends sends cut =
+    cut_behind Stream (stream_of guest past) (puts_behind (run_end guest past) guest past) old mid new sends
+    (subst (λ (e : RunEnd). PutsCut (puts_behind e guest past) mid new) (sym (stands_switched guest past ends.last)) cut)
+
+-- however a run ended, its events begin a schedule
+pub begins_anyhow : (guest : Guest) (past : List Event) (e : OutcomeEnd) → EndsAs e guest past → BeginsSchedule guest past
+begins_anyhow guest past outcome.Switched ends = scheduled_begins guest past ends.scheduled
+begins_anyhow guest past outcome.Budget ends = scheduled_begins guest past ends.scheduled
+begins_anyhow guest past outcome.Sink ends = ends
+begins_anyhow guest past outcome.Memory ends = ends
+
+cut_off : (guest : Guest) (left : Left) (old new : Ports) → IsRunOf guest left → BeginsSchedule guest left.past → PutsCut (puts_of guest left.past) old new
+    → IsCutOff guest left old new
+cut_off guest left old new run begins cut = record { run = run; begins = begins; promises = promises guest left.past run.legal.0; ports = cut }
+
+-- what the status of a run says
+pub run_says : (guest : Guest) (left : Left) (old new : Ports) (r : Result Status PutFault) → IsValid guest → IsRunOf guest left → BeginsSchedule guest left.past
+    → IfOk r (λ s. EndsWhole s guest left.past) → OnOk r (new ≡ put_all (puts_of guest left.past) old) → OnErr r (PutsCut (puts_of guest left.past) old new)
+    → RunSays (status_of_end r) guest (Some left) old new
+run_says guest left old new (Ok Done) valid run begins whole done cut =
+    record { run = run; switched = whole; headline = headline guest left.past valid run.legal.0 (some_switched left.past whole.last); ports = done }
+run_says guest left old new (Ok Unfinished) valid run begins whole done cut =
+    record { run = run; spent = whole; rounds = spent_is_told guest left.past run.legal.0 whole.spent; promises = promises guest left.past run.legal.0; ports = done }
+run_says guest left old new (Ok s) valid run begins whole done cut = absurd whole
+run_says guest left old new (Err fault.Outlet) valid run begins whole done cut = cut_off guest left old new run begins cut
+run_says guest left old new (Err fault.Memory) valid run begins whole done cut = cut_off guest left old new run begins cut
+
+-- it says that a put failed only where the count of faults has risen
+pub outlet_rose : (guest : Guest) (past : List Event) (before now : ℕ) (r : Result Status PutFault) → IfOk r (λ s. EndsWhole s guest past) → IfErr r (IsFault before now)
+    → status_of_end r ≡ Outlet → Rose before now
+outlet_rose guest past before now (Ok Outlet) whole fault is = absurd whole
+outlet_rose guest past before now (Ok s) whole fault is = cc
+outlet_rose guest past before now (Err fault.Outlet) whole fault is = fault
+outlet_rose guest past before now (Err fault.Memory) whole fault is = cc
