@@ -1,6 +1,6 @@
 #!/usr/bin/env bash
-# Measures the turns of the machine over guests that write all their pages, and checks what they are made of. Run it by
-# hand on a quiet machine, once `rt run` or `rt ci` has built the program:
+# Measures the turns of the machine over whole migrations of guests that write all their pages, and checks
+# what they are made of. Run it by hand on a quiet machine, once `rt run` or `rt ci` has built the program:
 #   bench/turns.sh [PROGRAM [RUNS]]
 set -eu
 here="$(cd "$(dirname "$0")" && pwd)"
@@ -8,15 +8,18 @@ program="${1:-$here/../crates/dr_turn_speed/out/dr_turn_speed}"
 runs="${2:-15}"
 vcpus=8
 pages=16384
+rounds=8
 script=turns.sh
 status=2
 . "$here/measure.sh"
 
 # A guest with this log buffer. Each vCPU goes so often over 6,249 pages, each from a page of its own on, and
-# stores a byte in each; some additions and a halt make the number of its ops 6,250 times that.
+# stores a byte in each; some additions and a halt make the number of its ops 6,250 times that. To be paced
+# takes more stores than its ring has entries, so in most rounds each vCPU leaves the guest once, full.
 guest() {
     awk -v buffer="$1" -v times="$2" -v vcpus="$vcpus" -v pages="$pages" 'BEGIN {
-        print "dirtyguest 1\nring 4096\nreserve 64\nbuffer " buffer "\npace 1\nthreshold 0\nrounds 4\nquota 0"
+        print "dirtyguest 1\nring 1024\nreserve 64\nbuffer " buffer
+        print "pace 1800\nthreshold 0\nrounds 15\nquota 0"
         print "slot 0 0 " pages
         for (v = 0; v < vcpus; v++) {
             print "vcpu\nrep " times
@@ -27,18 +30,20 @@ guest() {
         }
     }'
 }
-# What each guest has: its ops are all executed, and what is pushed is reset.
+# What each guest has: its ops are all executed, what is pushed is reset, and what is asked is answered.
 check() {
     local events name
     [ "$(count 'ops executed')" = "$1" ] || fail "$input: $(count 'ops executed') ops executed, and $1 are wanted"
     events="$(count events)"
-    for name in 'entries opened' 'entries pushed' 'entries reset'; do
+    for name in 'entries opened' 'entries pushed' 'entries reset' 'pages copied'; do
         at_least $(((events + 19) / 20)) "$name"
     done
     [ "$(count 'entries opened')" = "$(count 'entries pushed')" ] || fail "$input: not all that is opened is pushed"
     [ "$(count 'entries pushed')" = "$(count 'entries reset')" ] || fail "$input: not all that is pushed is reset"
+    [ "$(count 'rounds asked')" = "$(count 'rounds answered')" ] || fail "$input: not all that is asked is answered"
+    at_least "$rounds" 'rounds answered'
     at_least "$vcpus" flushes
-    at_least $((vcpus * 2)) exits
+    at_least $((vcpus * rounds)) exits
 }
 # 100,000 ops and 200,000, with this log buffer: the second line has the ratio to the times of the first.
 measure() {
@@ -50,8 +55,9 @@ measure() {
         read -r clock processor < <(best)
         check "$ops"
         events="$(count events)"
-        printf '%d ops, %d events (%d opened, pushed and reset each): %d ms, %d events a second' "$ops" "$events" \
-            "$(count 'entries reset')" "$clock" $((events * 1000 / clock))
+        printf '%d ops, %d events (%d opened, pushed and reset each, %d copied, %d rounds): %d ms, %d events a second' \
+            "$ops" "$events" "$(count 'entries reset')" "$(count 'pages copied')" "$(count 'rounds answered')" \
+            "$clock" $((events * 1000 / clock))
         if [ -n "$last_clock" ]; then printf ', %s times' "$(ratio "$clock" "$last_clock")"; fi
         printf '; processor %d ms' "$processor"
         if [ -n "$last_processor" ]; then printf ', %s times' "$(ratio "$processor" "$last_processor")"; fi

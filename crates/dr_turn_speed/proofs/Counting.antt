@@ -4,7 +4,7 @@ use Rattle.std.proofs.Math.Numerals.{add-one}
 use Rattle.std.proofs.lemmas.List.{reverse-append, length-reverse, length-take-le, take_more}
 use Rattle.dr_history.specs.declared.event.Event.{Event}
 use Rattle.dr_history.specs.Lookback.{count}
-use Rattle.dr_history.specs.Kinds.{is_flushed}
+use Rattle.dr_history.specs.Kinds.{is_flushed, is_asked, is_synced, is_copied}
 use Rattle.dr_turn_speed.specs.declared.counts.Counts.{Counts}
 use Rattle.dr_turn_speed.specs.Counts.{AreSmall, counts_of, counted, is_op, is_opened, is_filled, is_pushed, is_reset, is_exited}
 
@@ -26,6 +26,9 @@ small past few = record {
   reset = omega (arith, count_few is_reset past);
   flushed = omega (arith, count_few is_flushed past);
   exited = omega (arith, count_few is_exited past);
+  asked = omega (arith, count_few is_asked past);
+  answered = omega (arith, count_few is_synced past);
+  copied = omega (arith, count_few is_copied past);
 }
 
 reverse_more : (xs : List Event) (i : ℕ) (d : Event) → i < length xs → reverse (take (i + 1) xs) ≡ get_or xs i d ∷ reverse (take i xs)

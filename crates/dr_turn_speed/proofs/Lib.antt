@@ -1,2 +1,4 @@
 pub mod Begun
 pub mod Counting
+pub mod Ended
+pub mod Named

@@ -1,10 +1,11 @@
 -- How many events of each kind a history has.
 use Rattle.std.specs.Prelude.{◌≡◌, ℕ, ◌+◌, ◌^◌, ◌<◌, Bool, true, false, if◌then◌else◌, List, length, Ok}
+use Rattle.std.specs.List.{list_any}
 use Rattle.dr_types.specs.declared.guest.Guest.{Guest}
 use Rattle.dr_guestfile.specs.GuestTexts.{guest_of}
 use Rattle.dr_history.specs.declared.event.Event.{Event}
 use Rattle.dr_history.specs.declared.event.Event.TheVariants.{Read, Write, Paint, Local, Halted, Opened, Filled, Pushed, Reset, Exited}
-use Rattle.dr_history.specs.Kinds.{is_flushed}
+use Rattle.dr_history.specs.Kinds.{is_flushed, is_asked, is_synced, is_copied, is_switched}
 use Rattle.dr_history.specs.Legality.{IsLegal}
 use Rattle.dr_history.specs.Lookback.{count}
 use Rattle.dr_turn_speed.specs.declared.counts.Counts.{Counts}
@@ -53,6 +54,9 @@ counts_of past = record {
   reset = count is_reset past;
   flushed = count is_flushed past;
   exited = count is_exited past;
+  asked = count is_asked past;
+  answered = count is_synced past;
+  copied = count is_copied past;
 }
 
 -- the counts with one more event
@@ -66,6 +70,9 @@ counted e c = record {
   reset = one_more (is_reset e) c.reset;
   flushed = one_more (is_flushed e) c.flushed;
   exited = one_more (is_exited e) c.exited;
+  asked = one_more (is_asked e) c.asked;
+  answered = one_more (is_synced e) c.answered;
+  copied = one_more (is_copied e) c.copied;
 }
 
 -- one more of each kind can be counted
@@ -78,11 +85,15 @@ pub record AreSmall (c : Counts) : Type 0 where
   pub reset : c.reset < 2 ^ 63
   pub flushed : c.flushed < 2 ^ 63
   pub exited : c.exited < 2 ^ 63
+  pub asked : c.asked < 2 ^ 63
+  pub answered : c.answered < 2 ^ 63
+  pub copied : c.copied < 2 ^ 63
 
--- the counts are those of a legal history of the guest
+-- the counts are those of a legal history of the guest, which has switched over
 pub record AreOfLegal (guest : Guest) (c : Counts) : Type 0 where
   pub past : List Event
   pub legal : IsLegal guest past
+  pub switched : list_any is_switched past ≡ true
   pub are : c ≡ counts_of past
 
 -- the text says a guest, and the counts are those of a legal history of it

@@ -18,6 +18,9 @@ pub struct Counts {
     pub reset: u64,
     pub flushed: u64,
     pub exited: u64,
+    pub asked: u64,
+    pub answered: u64,
+    pub copied: u64,
 }
 
 impl Counts {
@@ -34,6 +37,9 @@ impl Counts {
             reset: 0,
             flushed: 0,
             exited: 0,
+            asked: 0,
+            answered: 0,
+            copied: 0,
         }
     }
 
@@ -55,6 +61,9 @@ impl Counts {
             Event::Reset { .. } => self.reset += 1,
             Event::Flushed => self.flushed += 1,
             Event::Exited { .. } => self.exited += 1,
+            Event::Asked { .. } => self.asked += 1,
+            Event::Synced { .. } => self.answered += 1,
+            Event::Copied { .. } => self.copied += 1,
             _ => {}
         }
     }
@@ -84,10 +93,18 @@ fn print_entries(rt: &impl Print, counts: &Counts) -> io::Result<()> {
     print_count(rt, "entries reset", counts.reset)
 }
 
+/// Prints what the rounds are made of.
+fn print_rounds(rt: &impl Print, counts: &Counts) -> io::Result<()> {
+    print_count(rt, "rounds asked", counts.asked)?;
+    print_count(rt, "rounds answered", counts.answered)?;
+    print_count(rt, "pages copied", counts.copied)
+}
+
 /// Prints the counts, one a line.
 pub fn print_counts(rt: &impl Print, counts: &Counts) -> io::Result<()> {
     print_count(rt, "ops executed", counts.ops)?;
     print_entries(rt, counts)?;
+    print_rounds(rt, counts)?;
     print_count(rt, "flushes", counts.flushed)?;
     print_count(rt, "exits", counts.exited)?;
     print_count(rt, "events", counts.events)?;

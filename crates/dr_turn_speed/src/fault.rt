@@ -18,9 +18,12 @@ pub enum RunFault {
     Failed,
     #[error("out of memory")]
     Memory,
-    /// A vCPU executed as many operations as its pace wants, and logging didn't start.
-    #[error("logging doesn't start")]
-    NotPaced,
+    /// All rounds were asked, and the last left too many pages.
+    #[error("the rounds are spent")]
+    Spent,
+    /// The migrator had more turns than any run takes.
+    #[error("the run doesn't end")]
+    Open,
     /// An entry was harvested twice.
     #[error("entry {k} of vCPU {v} was deposited before")]
     Twice { v: u32, k: u64 },
@@ -42,6 +45,6 @@ pub fn exit_code(fault: RunFault) -> u8
         } => 1,
         RunFault::Failed | RunFault::Memory => 1,
         RunFault::Guest { .. } | RunFault::TooLong => 2,
-        RunFault::NotPaced | RunFault::Twice { .. } => 3,
+        RunFault::Spent | RunFault::Open | RunFault::Twice { .. } => 3,
     }
 }

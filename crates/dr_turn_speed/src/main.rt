@@ -1,5 +1,5 @@
-//! Drives the turns of a machine over a guest file, so that their time can be measured from outside,
-//! and prints how many events of each kind they left.
+//! Drives a machine over a guest file to the switch-over, so that the time of its turns can be measured
+//! from outside, and prints how many events of each kind they left.
 #![tactic(auto)]
 
 mod counts;

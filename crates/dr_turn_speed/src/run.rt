@@ -56,9 +56,8 @@ fn new_driver<N: Name>(alloc: Global, guest: Guest, set: RingSet) -> Result<Driv
 }
 
 /// The counts of the run of a new driver.
-#[tactic(auto, using(crate::proofs::Begun::are_of_legal))]
+#[tactic(auto, using(crate::proofs::Ended::are_of_legal))]
 fn driven<N: Name>(alloc: Global, driver: &mut Driver<N>) -> Result<Counts, RunFault>
-    requires { driver.old.machine.past ≡ [] }
     ensures { IfOk result (AreOfLegal N.guest) }
 {
     let counts = drive(alloc, driver);
@@ -96,7 +95,7 @@ fn run(alloc: Global, guest: Guest) -> Result<Counts, RunFault>
 }
 
 /// The counts of the run of the guest that a text says.
-#[tactic(auto, using(crate::proofs::Begun::are_of_text))]
+#[tactic(auto, using(crate::proofs::Ended::are_of_text))]
 fn run_text(alloc: Global, text: &[u8]) -> Result<Counts, RunFault>
     ensures { IfOk result (AreOfText text.now) }
 {
