@@ -1,7 +1,7 @@
 -- The exit code of each status.
 use Rattle.std.specs.Prelude.{ℕ}
 use Rattle.dr_types.specs.declared.status.Status.{Status}
-use Rattle.dr_types.specs.declared.status.Status.TheVariants.{Done, Words, GuestFile, JournalText, Unfinished, Outlet, Source, Memory, IllegalJournal, BadStream, TooLong, Unbuilt}
+use Rattle.dr_types.specs.declared.status.Status.TheVariants.{Done, Words, GuestFile, JournalText, Unfinished, Outlet, Source, Memory, IllegalJournal, BadStream, TooLong}
 
 abbrev pub code_of : Status → ℕ
 code_of Done = 0
@@ -15,7 +15,6 @@ code_of Memory = 6
 code_of (IllegalJournal event rule) = 7
 code_of (BadStream why) = 8
 code_of TooLong = 9
-code_of Unbuilt = 10
 
 -- where what waited behind the call can't be written, the code is that of a failed write, unless nothing
 -- was put

@@ -21,7 +21,6 @@ pub fn exit_code(status: Status) -> u8
         Status::IllegalJournal { .. } => 7,
         Status::BadStream(_) => 8,
         Status::TooLong => 9,
-        Status::Unbuilt => 10,
     }
 }
 
@@ -109,10 +108,5 @@ pub fn print_refusal(
         Status::TooLong => {
             eprintln!(rt; "{input}: a guest file has at most {MOST_GUEST_BYTES} bytes")
         }
-        Status::Unbuilt => eprintln!(rt; "{input}: {UNBUILT}"),
     }
 }
-
-/// Why a valid guest isn't run yet.
-const UNBUILT: &str = "this guest can't be run yet: every script has to end within `pace` ops, \
-`quota` has to be 0, and `rounds` has to be 2 or more where there are more pages than `threshold`";

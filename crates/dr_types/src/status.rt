@@ -25,6 +25,4 @@ pub enum Status {
     BadStream(StreamFault),
     /// The input has more bytes than the command takes.
     TooLong,
-    /// The guest is valid, and this stage doesn't run it.
-    Unbuilt,
 }
