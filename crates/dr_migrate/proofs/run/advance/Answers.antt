@@ -1,7 +1,7 @@
 use Rattle.std.proofs.Common.{◌∙◌, rules}
 use Rattle.dr_schedule.proofs.Timing.{step_times}
 use Rattle.dr_migrate.proofs.Running.{has_advanced, step_cut, step_cut_times}
-use Rattle.dr_migrate.proofs.Stepped.{advance_in_step}
+use Rattle.dr_settle.proofs.Staying.{advance_in_step}
 use Rattle.dr_migrate.proofs.run.advance.Goals as goal
 
 pub returns-in_err-step-clause-cut : goal.returns-in_err-step-clause-cut
@@ -22,7 +22,7 @@ pub returns-clause-going : goal.returns-clause-going
 returns-clause-going g c = record {
   whole = c.in_ok-step.ensures.failed;
   going = c.in_ok-step.ensures.over ∙ c.requires.going.going;
-  in_step = advance_in_step g.N.Name.guest c.args.now c.args.bench.now.past c.advance.new.self.past c.args.collector.now c.requires.going.in_step c.in_ok-step.ensures.appended;
+  in_step = rw c.in_ok-step.ensures.appended (advance_in_step g.N.Name.guest c.args.now c.args.bench.now.past c.args.collector.now c.requires.going.in_step);
 }
 
 pub returns-clause-times : goal.returns-clause-times

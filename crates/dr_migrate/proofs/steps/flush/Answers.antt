@@ -1,6 +1,6 @@
 use Rattle.std.proofs.Common.{◌∙◌}
 use Rattle.dr_schedule.proofs.Telling.{not_flushed}
-use Rattle.dr_migrate.proofs.Stepped.{flush_in_step}
+use Rattle.dr_settle.proofs.Staying.{flush_in_step}
 use Rattle.dr_migrate.proofs.Waiting.{flush_moves}
 use Rattle.dr_migrate.proofs.steps.flush.Goals as goal
 
@@ -17,6 +17,6 @@ returns-clause-going g c =
     let old = c.args.bench.now.past in record {
       whole = c.flush.ensures.outlet.failed ∙ c.requires.going.whole;
       going = c.flush.ensures.over ∙ c.requires.going.going;
-      in_step = flush_in_step guest old c.flush.new.self.past c.args.collector.now c.requires.going.in_step
-          (c.in_ok-_some.ensures.appended (not_flushed guest c.args.now old c.keeps.ensures.legal.0 c.requires.answer));
+      in_step = rw (c.in_ok-_some.ensures.appended (not_flushed guest c.args.now old c.keeps.ensures.legal.0 c.requires.answer))
+          (flush_in_step guest old c.args.collector.now c.requires.going.in_step);
     }
