@@ -10,7 +10,7 @@ use std::test::Fail;
 fn is_cut(alloc: Global, put: u64, status: Status, long: [usize; 4]) -> Result<bool, AllocError> {
     let file = guest_file(alloc, "")?;
     let end = step_on(alloc, &file, &[put], 0)?;
-    Ok(end.status == Some(status) && lengths(&end.out) == long)
+    Ok(end.status == Some(status) && end.is_kept && lengths(&end.out) == long)
 }
 
 #[test]
@@ -65,7 +65,8 @@ fn is_unread(alloc: Global, read: u64) -> Result<bool, AllocError> {
     let file = guest_file(alloc, "")?;
     let mut source = source(alloc, &file, true, &[read])?;
     let end = step(alloc, &mut source, &[], &FixedClock { now: 0 })?;
-    Ok(end.status == Some(Status::Source) && lengths(&end.out) == [0, 0, 0, 0])
+    let nothing = !end.is_kept && lengths(&end.out) == [0, 0, 0, 0];
+    Ok(end.status == Some(Status::Source) && nothing)
 }
 
 #[test]

@@ -3,7 +3,7 @@
 use dr_io::{ByteSource, Clock, FixedClock, Port, PortBook};
 use dr_plain::{PlainEnd, plain_main};
 use dr_rows::SETTINGS;
-use dr_types::{Listed, NumberList};
+use dr_types::{Listed, NumberList, Status};
 use std::alloc::{AllocError, Global};
 
 /// The parts, one behind the other.
@@ -42,25 +42,38 @@ fn step_word(alloc: Global) -> Result<Vec<String>, AllocError> {
     Ok(vec![in alloc; String::from_str(alloc, "step")?]?)
 }
 
+/// What a command left: its status, what stands on the ports, and whether its machine was kept.
+#[derive(Drop)]
+pub struct Ran {
+    pub status: Option<Status>,
+    pub out: PortBook,
+    pub is_kept: bool,
+}
+
+/// What a command left, without the machine that was kept.
+fn without_machine(end: PlainEnd<PortBook>) -> Ran {
+    let PlainEnd { status, out, kept } = end;
+    Ran {
+        status,
+        out,
+        is_kept: kept.is_some(),
+    }
+}
+
 /// Runs `step` on a source, with the puts of these numbers failing.
 pub fn step<C: Clock>(
     alloc: Global,
     source: &mut ByteSource,
     puts: &[u64],
     clock: &C,
-) -> Result<PlainEnd<PortBook>, AllocError> {
+) -> Result<Ran, AllocError> {
     let out = PortBook::new(alloc, numbers(alloc, puts)?);
     let words = step_word(alloc)?;
-    Ok(plain_main(alloc, words.as_slice(), source, out, clock))
+    Ok(without_machine(plain_main(alloc, words.as_slice(), source, out, clock)))
 }
 
 /// Runs `step` on a file that comes in large pieces, with the puts of these numbers failing.
-pub fn step_on(
-    alloc: Global,
-    file: &str,
-    puts: &[u64],
-    now: u64,
-) -> Result<PlainEnd<PortBook>, AllocError> {
+pub fn step_on(alloc: Global, file: &str, puts: &[u64], now: u64) -> Result<Ran, AllocError> {
     let mut source = source(alloc, file, false, &[])?;
     step(alloc, &mut source, puts, &FixedClock { now })
 }
