@@ -145,7 +145,6 @@ measure() {
     local best_step= best_plain= now
     large_guest > "$folder/guest"
     step guest
-    [ "$code" != 10 ] || fail 'step does not run such a guest yet, so nothing is measured'
     [ "$code" = 0 ] || fail "step ends with $code: $(cat "$folder/error")"
     for _ in 1 2 3 4 5 6 7 8 9; do
         now=$(took step guest)
@@ -163,16 +162,12 @@ measure() {
     echo "the same files, with $(grep -c '^copy ' "$folder/step.journal") copies"
 }
 agree() {
-    local n ended unbuilt=0 spent=0
+    local n ended spent=0
     for ((n = seed; n < seed + guests; n++)); do
         random_guest "$n" > "$folder/guest"
         rm -f "$folder"/step.* "$folder"/plain.*
         step guest
         ended=$code
-        if [ "$ended" = 10 ]; then
-            unbuilt=$((unbuilt + 1))
-            continue
-        fi
         plain guest
         if [ "$ended" != "$code" ] || ! same_files; then
             cp "$folder/guest" "/tmp/disagrees.guest"
@@ -180,7 +175,6 @@ agree() {
         fi
         if [ "$ended" = 3 ]; then spent=$((spent + 1)); fi
     done
-    echo "the same files for $((guests - unbuilt)) guests, of which $spent spent their rounds;" \
-        "$unbuilt are not run yet"
+    echo "the same files for $guests guests, of which $spent spent their rounds"
 }
 "$mode"
