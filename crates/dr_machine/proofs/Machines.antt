@@ -1,8 +1,10 @@
 -- What ties a machine's log to its rings, and what each turn leaves of it.
-use Rattle.std.proofs.Common.{◌≡◌, ℕ, ◌<◌, max, List, [], ◌∷◌, map, Some, sym, ap, ◌∙◌, subst}
+use Rattle.std.proofs.Common.{◌≡◌, ℕ, ◌<◌, max, List, [], ◌∷◌, length, map, Some, sym, ap, ◌∙◌, subst}
+use Rattle.std.proofs.lemmas.List.{length-map}
 use Rattle.atomic_table.specs.Seated.{TableId}
 use Rattle.dr_types.specs.declared.guest.Guest.{Guest}
 use Rattle.dr_types.specs.declared.guest.SlotRow.{SlotRow}
+use Rattle.dr_types.specs.Scripts.{vcpu_count}
 use Rattle.dr_history.specs.declared.event.Event.{Event}
 use Rattle.dr_history.specs.declared.event.Event.TheVariants.{Read, Write, Paint, Local, Halted, Opened, Filled}
 use Rattle.dr_history.specs.Entries.{opens}
@@ -12,6 +14,7 @@ use Rattle.dr_law.specs.Room.{unpushed}
 use Rattle.dr_may.specs.May.{MayFollow}
 use Rattle.dr_log.specs.State as log
 use Rattle.dr_ring.specs.Seats.{KernelView, new_kernel}
+use Rattle.dr_rings.specs.Seated.{ring_of_kernel}
 use Rattle.dr_seats.specs.Seats.{AreSeats, IsAside}
 use Rattle.dr_seats.proofs.Seating.{begin_seats, seats_stay}
 use Rattle.dr_turns.specs.Between.{AtTurnsEnd}
@@ -80,3 +83,7 @@ ties_executed guest rings slots old new seats v tied legal same past = record {
 -- a buffer has no more entries than it takes, between turns
 pub few_unpushed : (guest : Guest) (past : List Event) (v : ℕ) → AtTurnsEnd guest past → unpushed v past < max 1 guest.settings.buffer
 few_unpushed guest past v end = end.buffers v
+
+-- there is one seat for each vCPU, where the seats are of a name's rings
+pub one_seat_each : (guest : Guest) (rings : List TableId) (seats : List KernelView) → AreRingsFor guest rings → map ring_of_kernel seats ≡ rings → length seats ≡ vcpu_count guest
+one_seat_each guest rings seats are named = sym (length-map seats ring_of_kernel) ∙ ap length named ∙ are.one_each

@@ -9,8 +9,8 @@ use dr_types::Guest;
 use std::marker::Model;
 
 /// What is left of a machine, without the name: its guest, what has happened to it, and the kernel
-/// seats of its rings. Its type keeps that the history is legal for the guest, and that each seat has
-/// pushed and reset what the events say. Only a machine makes one.
+/// seats of its rings, one for each vCPU. Its type keeps that the history is legal for the guest, and
+/// that each seat has pushed and reset what the events say. Only a machine makes one.
 #[derive(Drop)]
 pub struct Kept {
     guest: Guest,
@@ -19,6 +19,8 @@ pub struct Kept {
 }
 
 impl Model for Kept {
+    ghost use Rattle.std.specs.Prelude.{◌≡◌, length};
+    ghost use Rattle.dr_types.specs.Scripts.{vcpu_count};
     ghost use Rattle.dr_history.specs.Legality.{IsLegal};
     ghost use Rattle.dr_seats.specs.Seats.{AreSeats};
     ghost use Rattle.dr_machine.specs.States.{Left};
@@ -28,7 +30,8 @@ impl Model for Kept {
     ghost view = { λ k. record { guest = k.guest; past = k.history.past; seats = k.seats } };
 
     ghost invariant = { λ k.
-        IsLegal k.guest k.history.past × AreSeats k.guest k.history.past k.seats };
+        IsLegal k.guest k.history.past × AreSeats k.guest k.history.past k.seats
+        × (length k.seats ≡ vcpu_count k.guest) };
 }
 
 impl Kept {
@@ -36,6 +39,7 @@ impl Kept {
     pub(crate) fn of(guest: Guest, history: History, seats: KernelSeatList) -> Kept
         requires legal { IsLegal guest history.past }
         requires seats { AreSeats guest history.past seats }
+        requires one_each { length seats ≡ vcpu_count guest }
         ensures guest { result.guest ≡ guest }
         ensures past { result.past ≡ history.past }
         ensures seats { result.seats ≡ seats }
@@ -59,6 +63,7 @@ impl Kept {
         ensures past { result.now.past ≡ self.now.past }
         ensures legal { IsLegal self.now.guest result.now.past }
         ensures seats { AreSeats self.now.guest result.now.past self.now.seats }
+        ensures one_each { length self.now.seats ≡ vcpu_count self.now.guest }
     {
         let _guest = &self.guest;
         &self.history

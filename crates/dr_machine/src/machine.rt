@@ -347,11 +347,14 @@ impl<N: Name> Machine<N> {
         self.log.page(page)
     }
 
-    /// What is left without the name: the guest that it fixes, the history and the kernel seats.
+    /// What is left without the name: the guest that it fixes, the history and the kernel seats, one for
+    /// each vCPU.
+    #[tactic(auto, using(crate::proofs::Machines::one_seat_each))]
     pub fn keep(self) -> Kept
         ensures guest { result.guest ≡ N.guest }
         ensures past { result.past ≡ self.past }
         ensures seats { result.seats ≡ self.seats }
+        ensures one_each { length result.seats ≡ vcpu_count N.guest }
     {
         self.keeps();
         let Machine { log, seats, .. } = self;

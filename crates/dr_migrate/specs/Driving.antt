@@ -75,8 +75,10 @@ IsExecuted guest v old new t = ⊥
 -- else it executed its next op
 pub record Acts (guest : Guest) (v : ℕ) (old new : List Event) : Type 0 where
   pub full : is_full guest v old ≡ true → new ≡ reaped guest (reaps_after_full guest v) (exited guest v old)
-  pub halts : is_full guest v old ≡ false → is_halt (operation guest v (ops v old)) ≡ true → new ≡ exited guest v (after_op guest v old)
-  pub runs : is_full guest v old ≡ false → is_halt (operation guest v (ops v old)) ≡ false → new ≡ after_op guest v old
+  pub halts : is_full guest v old ≡ false → is_halt (operation guest v (ops v old)) ≡ true
+      → new ≡ exited guest v (after_op guest v old)
+  pub runs : is_full guest v old ≡ false → is_halt (operation guest v (ops v old)) ≡ false
+      → new ≡ after_op guest v old
 
 -- .. that were broken off: nothing was done, or with a full ring it left and a part of the reap was done, or it executed
 -- its next op
@@ -84,7 +86,7 @@ pub record ActsInPart (guest : Guest) (v : ℕ) (old new : List Event) : Type 0 
   pub full : is_full guest v old ≡ true → LeftInPart guest v old new
   pub runs : is_full guest v old ≡ false → (new ≡ old) ⊎ (new ≡ after_op guest v old)
 
--- the times in the events, where this one may have joined them, are read from a clock
+-- where the times in the events were read from a clock, they still are
 pub record StaysRead (reads : ℕ → Type 0) (old new : List Event) : Type 0 where
   pub all : All reads (times old) → All reads (times new)
 

@@ -5,6 +5,7 @@ use Rattle.dr_types.specs.declared.fault.FileFault.TheVariants as fault
 use Rattle.dr_types.specs.declared.status.Status.{Status}
 use Rattle.dr_types.specs.declared.status.Status.TheVariants.{Done, Words, GuestFile, Unfinished, Outlet, Source, Memory, TooLong}
 use Rattle.dr_types.specs.Ports.{Ports, put_all, PutsCut}
+use Rattle.dr_types.specs.Scripts.{vcpu_count}
 use Rattle.dr_types.specs.Validity.{IsValid}
 use Rattle.dr_history.specs.Legality.{IsLegal}
 use Rattle.dr_history.specs.Lines.{FitsLine}
@@ -17,13 +18,14 @@ use Rattle.dr_spent.specs.Spent.{AreSpent}
 use Rattle.dr_plain.specs.Input.{IfTold, IsRead, IsRefused, most_bytes}
 use Rattle.dr_plain.specs.Puts.{puts_of}
 
--- What is kept is of a machine that ran this guest: its history is legal, each event has a line of its own, and its rings
--- have pushed and reset what the events say.
+-- What is kept is of a machine that ran this guest: its history is legal, each event has a line of its own, and its rings,
+-- one for each vCPU, have pushed and reset what the events say.
 pub record IsRunOf (guest : Guest) (kept : Left) : Type 0 where
   pub same : kept.guest ≡ guest
   pub legal : IsLegal guest kept.past
   pub fits : All FitsLine kept.past
   pub seats : AreSeats guest kept.past kept.seats
+  pub one_each : length kept.seats ≡ vcpu_count guest
 
 -- the guest has switched over, by the schedule; the headline holds, and all that is to be put was put
 pub record IsMigrated (guest : Guest) (kept : Left) (old new : Ports) : Type 0 where
