@@ -49,11 +49,12 @@ CoversWritten guest past =
     → list_any (copies_page page) later ≡ false
     → has_page pages page ≡ true
 
--- memory is what it was where the guest was stopped
-abbrev pub KeepsStoppedMemory : Guest → List Event → Type 0
-KeepsStoppedMemory guest past =
-    (later earlier : List Event) → past ≡ later ++ Stopped ∷ earlier
-    → memory guest past ≡ memory guest earlier
+-- the guest was stopped, and memory is what it was there
+pub record KeepsStoppedMemory (guest : Guest) (past : List Event) : Type 0 where
+  pub later : List Event
+  pub earlier : List Event
+  pub stop : past ≡ later ++ Stopped ∷ earlier
+  pub stays : memory guest past ≡ memory guest earlier
 
 -- the promises that each legal history keeps, wherever it ends
 pub record KeepsPromises (guest : Guest) (past : List Event) : Type 0 where
@@ -69,10 +70,12 @@ pub record KeepsHeadline (guest : Guest) (past : List Event) : Type 0 where
   pub same : destination guest past ≡ memory guest past
   pub loads : IsStream (stream_of guest past) (memory guest past) (count is_copied past)
 
+-- each legal history keeps the promises, whatever guest it is of and wherever it ends
 abbrev pub LegalKeepsPromises : Type 0
 LegalKeepsPromises =
     (guest : Guest) (past : List Event) → IsLegalSoFar guest past → KeepsPromises guest past
 
+-- each legal history of a valid guest that has a Switched keeps the headline
 abbrev pub SwitchedKeepsHeadline : Type 0
 SwitchedKeepsHeadline =
     (guest : Guest) (past : List Event) → IsValid guest → IsLegalSoFar guest past
