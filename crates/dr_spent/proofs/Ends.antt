@@ -1,46 +1,30 @@
 -- A run that has spent its rounds ends by its budget, and whatever follows they stay spent.
-use Rattle.std.proofs.Common.{◌≡◌, ℕ, ◌<◌, ◌≤◌, true, false, List, ◌∷◌, ◌++◌, Option, Some, None, length, refl, sym, ◌∙◌, arith, inl, inr, subst}
+use Rattle.std.proofs.Common.{◌≡◌, ℕ, ◌<◌, ◌≤◌, true, false, List, ◌∷◌, ◌++◌, Option, Some, length, refl, sym, ◌∙◌, arith, subst}
 use Rattle.std.specs.Prelude.{nat_le}
 use Rattle.std.specs.List.{list_all}
-use Rattle.std.proofs.lemmas.Bool.{and_parts, lt-leb, leb-true, lt-ltb, cases_lt, or_right, true≢false}
+use Rattle.std.proofs.lemmas.Bool.{lt-leb, leb-true, lt-ltb}
 use Rattle.std.proofs.lemmas.Option.{slice_get_past}
 use Rattle.dr_types.specs.declared.guest.Guest.{Guest}
+use Rattle.dr_types.specs.Validity.{IsValid}
 use Rattle.dr_history.specs.declared.event.Event.{Event}
-use Rattle.dr_history.specs.declared.event.Event.TheVariants.{Synced, Stopped}
-use Rattle.dr_history.specs.Kinds.{is_start, is_synced}
-use Rattle.dr_history.specs.Legality.{IsLegalSoFar, broken}
+use Rattle.dr_history.specs.declared.event.Event.TheVariants.{Synced}
+use Rattle.dr_history.specs.Kinds.{is_synced}
+use Rattle.dr_history.specs.Legality.{IsLegalSoFar}
 use Rattle.dr_history.specs.Lookback.{since}
 use Rattle.dr_history.specs.Protection.{started}
-use Rattle.dr_history.specs.Rounds.{asks, last_synced, few_answered, copied_in}
-use Rattle.dr_history.specs.Rules.{stops_when_few}
+use Rattle.dr_history.specs.Rounds.{last_synced, copied_in}
 use Rattle.dr_history.specs.Vcpus.{stopped}
 use Rattle.dr_law.specs.Copies.{copies, pages_of}
 use Rattle.dr_law.proofs.Copies.{all_copied}
-use Rattle.dr_law.proofs.Kept.{keeps}
 use Rattle.dr_turns.specs.declared.answers.RunEnd.TheVariants as end
 use Rattle.dr_turns.specs.Due.{run_end}
 use Rattle.dr_spent.specs.Spent.{AreSpent, CopiesEach, IsLargeRound}
 use Rattle.dr_spent.proofs.Answered.{is_quiet}
-use Rattle.dr_spent.proofs.Behind.{runs_here, asks_within, asks_behind, none_asked, is_unasked}
+use Rattle.dr_spent.proofs.Behind.{runs_here, asks_within, asks_behind, none_asked}
 use Rattle.dr_spent.proofs.Copied.{all_are_copied}
 use Rattle.dr_spent.proofs.Rounds.{large_on}
+use Rattle.dr_spent.proofs.Runs.{spent_begun, spent_runs}
 use Rattle.dr_spent.proofs.Tests.{NoneIsLeft, ends_by_budget}
-
--- where the guest may have no round, nothing is asked, answered or copied
-without_rounds : (guest : Guest) (past : List Event) → IsLegalSoFar guest past → AreSpent guest past
-    → guest.settings.rounds ≡ 0 → NoneIsLeft guest past
-without_rounds guest past legal spent none =
-    let few : asks past ≤ guest.settings.rounds = asks_within guest past legal spent.running in
-    let fresh = is_unasked guest past legal (omega (arith, few, none)) in
-    record {
-      begun = spent.begun;
-      answered = fresh.answered;
-      copied = rw fresh.last refl;
-      here = runs_here guest past legal spent.running;
-      running = spent.running;
-      large = rw fresh.last refl;
-      asked = omega (arith, none);
-    }
 
 -- where each page of the last answer is copied, there are as many copies as pages
 enough : (guest : Guest) (past later : List Event) (r at : ℕ) (pages : List ℕ) (earlier : List Event)
@@ -86,47 +70,36 @@ behind_last guest later r at pages earlier legal begun running is large copied =
       asked = omega (arith, sum, is);
     }
 
-with_rounds : (guest : Guest) (past : List Event) (r : ℕ) → IsLegalSoFar guest past → AreSpent guest past
-    → guest.settings.rounds ≡ r → IsLargeRound guest past r → NoneIsLeft guest past
-with_rounds guest past r legal spent is round =
+-- where the last of the guest's rounds was large and the guest runs, nothing is left
+last_leaves_none : (guest : Guest) (past : List Event) (r : ℕ) → IsLegalSoFar guest past
+    → started past ≡ true → stopped past ≡ false → guest.settings.rounds ≡ r → IsLargeRound guest past r
+    → NoneIsLeft guest past
+last_leaves_none guest past r legal begun running is round =
     subst (NoneIsLeft guest) (sym round.answered)
     (behind_last guest round.later r round.at round.pages round.earlier
     (subst (IsLegalSoFar guest) round.answered legal)
-    (subst (λ (xs : List Event). started xs ≡ true) round.answered spent.begun)
-    (subst (λ (xs : List Event). stopped xs ≡ false) round.answered spent.running)
+    (subst (λ (xs : List Event). started xs ≡ true) round.answered begun)
+    (subst (λ (xs : List Event). stopped xs ≡ false) round.answered running)
     is round.large round.copied)
 
 -- where the rounds are spent, nothing is asked or left to copy, and no round is left
-pub spent_leaves_none : (guest : Guest) (past : List Event) → IsLegalSoFar guest past → AreSpent guest past
-    → NoneIsLeft guest past
-spent_leaves_none guest past legal spent =
+spent_leaves_none : (guest : Guest) (past : List Event) → IsValid guest → IsLegalSoFar guest past
+    → AreSpent guest past → NoneIsLeft guest past
+spent_leaves_none guest past valid legal spent =
     let rounds : ℕ = guest.settings.rounds in
-    elim (cases_lt 0 rounds) [
-      | inl some ↦ with_rounds guest past rounds legal spent refl (spent.rounds rounds some (omega arith))
-      | inr le ↦ without_rounds guest past legal spent (omega (arith, le))
-    ]
+    last_leaves_none guest past rounds legal (spent_begun guest past valid legal spent)
+    (spent_runs guest past legal spent) refl
+    (spent.rounds rounds valid.settings.rounds_some (omega arith))
 
--- a run that has spent its rounds ends by its budget
-pub told_is_spent : (guest : Guest) (past : List Event) → IsLegalSoFar guest past → AreSpent guest past
-    → run_end guest past ≡ end.Budget
-told_is_spent guest past legal spent = ends_by_budget guest past (spent_leaves_none guest past legal spent)
-
-stop_few : (guest : Guest) (past : List Event) → broken guest past Stopped ≡ None
-    → few_answered guest (last_synced past) ≡ true
-unfolding stops_when_few
-stop_few guest past h = (and_parts _ _ (keeps guest past Stopped h).stops_when_few_holds).1
-
--- no guest is stopped whose last answer has too many pages
-runs_on : (guest : Guest) (past : List Event) (e : Event) → broken guest past e ≡ None
-    → stopped past ≡ false → few_answered guest (last_synced past) ≡ false → stopped (e ∷ past) ≡ false
-runs_on guest past Stopped h running large = absurd (true≢false (sym (stop_few guest past h) ∙ large))
-runs_on guest past e h running large = running
+-- the run of a valid guest that has spent its rounds ends by its budget
+pub told_is_spent : (guest : Guest) (past : List Event) → IsValid guest → IsLegalSoFar guest past
+    → AreSpent guest past → run_end guest past ≡ end.Budget
+told_is_spent guest past valid legal spent =
+    ends_by_budget guest past (spent_leaves_none guest past valid legal spent)
 
 -- whatever event follows, spent rounds stay spent
-pub spent_stays : (guest : Guest) (past : List Event) (e : Event) → IsLegalSoFar guest (e ∷ past)
-    → AreSpent guest past → AreSpent guest (e ∷ past)
-spent_stays guest past e legal spent = record {
-  begun = or_right (is_start e) (started past) spent.begun;
+pub spent_stays : (guest : Guest) (past : List Event) (e : Event) → AreSpent guest past
+    → AreSpent guest (e ∷ past)
+spent_stays guest past e spent = record {
   rounds = λ r one le. large_on guest past r e (spent.rounds r one le);
-  running = runs_on guest past e legal.0 spent.running (spent_leaves_none guest past legal.1 spent).large;
 }

@@ -4,4 +4,6 @@ pub mod Copied
 pub mod Rounds
 pub mod Told
 pub mod Behind
+pub mod Once
+pub mod Runs
 pub mod Ends

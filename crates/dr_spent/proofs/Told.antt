@@ -51,7 +51,6 @@ pub spent_is_told : (guest : Guest) (past : List Event) → IsLegalSoFar guest p
 spent_is_told guest past legal h =
     let tests = none_left guest past h in
     record {
-      begun = tests.begun;
       rounds = λ r one le.
           elim (cases_lt r (asks past)) [
             | inl less ↦ large_before guest past r legal tests.running one less
@@ -61,5 +60,4 @@ spent_is_told guest past legal h =
                 subst (IsLargeRound guest past) is
                 (last_is_large guest past legal tests (omega (arith, is, one)))
           ];
-      running = tests.running;
     }

@@ -1,10 +1,8 @@
 -- When the rounds of a migration are spent, in the words of its history alone.
-use Rattle.std.specs.Prelude.{◌≡◌, ◌<◌, ◌≤◌, ℕ, true, false, List, ◌∷◌, ◌++◌, length, Contains}
+use Rattle.std.specs.Prelude.{◌≡◌, ◌<◌, ◌≤◌, ℕ, List, ◌∷◌, ◌++◌, length, Contains}
 use Rattle.dr_types.specs.declared.guest.Guest.{Guest}
 use Rattle.dr_history.specs.declared.event.Event.{Event}
 use Rattle.dr_history.specs.declared.event.Event.TheVariants.{Synced, Copied}
-use Rattle.dr_history.specs.Protection.{started}
-use Rattle.dr_history.specs.Vcpus.{stopped}
 
 -- each of these pages is copied for the round in these events
 abbrev pub CopiesEach : ℕ → List ℕ → List Event → Type 0
@@ -20,8 +18,7 @@ pub record IsLargeRound (guest : Guest) (past : List Event) (r : ℕ) : Type 0 w
   pub large : guest.settings.threshold < length pages
   pub copied : CopiesEach r pages later
 
--- logging began, each round that the guest may have was large and was copied, and the guest runs on
+-- each round that the guest may have was answered with more pages than the threshold, and all of these were
+-- copied for it
 pub record AreSpent (guest : Guest) (past : List Event) : Type 0 where
-  pub begun : started past ≡ true
   pub rounds : (r : ℕ) → 1 ≤ r → r ≤ guest.settings.rounds → IsLargeRound guest past r
-  pub running : stopped past ≡ false
