@@ -1,7 +1,9 @@
 -- The exit code of each status.
 use Rattle.std.specs.Prelude.{ℕ}
 use Rattle.dr_types.specs.declared.status.Status.{Status}
-use Rattle.dr_types.specs.declared.status.Status.TheVariants.{Done, Words, GuestFile, JournalText, Unfinished, Outlet, Source, Memory, IllegalJournal, BadStream, TooLong}
+use Rattle.dr_types.specs.declared.status.Status.TheVariants.{Done, Words, GuestFile, JournalText}
+use Rattle.dr_types.specs.declared.status.Status.TheVariants.{Unfinished, Outlet, Source, Memory}
+use Rattle.dr_types.specs.declared.status.Status.TheVariants.{IllegalJournal, BadStream, TooLong}
 
 abbrev pub code_of : Status → ℕ
 code_of Done = 0

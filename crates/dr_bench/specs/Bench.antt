@@ -13,8 +13,8 @@ use Rattle.dr_ring.specs.Seats.{KernelView}
 use Rattle.dr_machine.specs.States as machine
 use Rattle.dr_stream.specs.Sending.{Sending}
 
--- what has happened, the newest event first, the kernel seat of each vCPU, whether the run was given up, whether a
--- put failed, what the outlet tells of the ports, and its count of faults
+-- what has happened, the newest event first, the kernel seat of each vCPU, whether the run was given up,
+-- whether a put failed, what the outlet tells of the ports, and its count of faults
 pub record BenchState : Type 0 where
   pub past : List Event
   pub seats : List KernelView
@@ -39,9 +39,9 @@ pub record IsPartOf (ports : Ports) (bytes : List ℕ) (told : Ports) : Type 0 w
   pub length : ℕ
   pub told_is : told ≡ put_at Stream (take length bytes) ports
 
--- What a bench keeps that began with these ports and this count. While no put failed, the Stream port has grown by
--- the stream of what happened; after that by a first part of it, the count has risen, and the run was given up. The
--- other ports are what they were.
+-- What a bench keeps that began with these ports and this count. While no put failed, the Stream port has
+-- grown by the stream of what happened; after that by a first part of it, the count has risen, and the run
+-- was given up. The other ports are what they were.
 pub record BenchKeeps (guest : Guest) (ports : Ports) (before : ℕ) (it : BenchState) : Type 0 where
   pub whole : it.failed ≡ false → it.told ≡ put_at Stream (stream_of guest it.past) ports
   pub part : it.failed ≡ true → IsPartOf ports (stream_of guest it.past) it.told

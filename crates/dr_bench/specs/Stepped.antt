@@ -25,8 +25,8 @@ abbrev pub opens_at : Guest → Bool → Advance → Bool
 opens_at guest stop (advance.Answered r pages) = nat_lt guest.settings.threshold pages || stop
 opens_at guest stop a = false
 
--- what a step of this answer puts: `opens` where it opens a round, `pages` as the guest has, `bytes` of the page that
--- was copied, and `sent` pages before
+-- what a step of this answer puts: `opens` where it opens a round, `pages` as the guest has, `bytes` of the
+-- page that was copied, and `sent` pages before
 abbrev pub step_bytes : Advance → Bool → ℕ → List ℕ → ℕ → List ℕ
 step_bytes advance.Started opens pages bytes sent = header pages
 step_bytes (advance.Answered r n) opens pages bytes sent = if opens then round_record r else []

@@ -1,4 +1,5 @@
-ghost use Rattle.std.specs.Prelude.{◌≡◌, ◌<◌, ◌≤◌, ◌+◌, ◌-◌, ◌^◌, ◌∷◌, ℕ, [], true, false, length, nat_lt, slice_get, Ok, Err, Some, None, IfOk, IfErr, OnOk, OnErr, IfSome};
+ghost use Rattle.std.specs.Prelude.{◌≡◌, ◌<◌, ◌≤◌, ◌+◌, ◌-◌, ◌^◌, ◌∷◌, ℕ, [], true, false, length, nat_lt};
+ghost use Rattle.std.specs.Prelude.{slice_get, Ok, Err, Some, None, IfOk, IfErr, OnOk, OnErr, IfSome};
 ghost use Rattle.std.specs.List.{list_any};
 ghost use Rattle.dr_types.specs.Pages.{page_count};
 ghost use Rattle.dr_types.specs.Ports.{Rose};

@@ -1,4 +1,5 @@
-ghost use Rattle.std.specs.Prelude.{◌≡◌, ◌<◌, ◌+◌, ◌^◌, [], ◌∷◌, ◌++◌, map, length, slice_get, Some, IfOk, IfSome};
+ghost use Rattle.std.specs.Prelude.{◌≡◌, ◌<◌, ◌+◌, ◌^◌, [], ◌∷◌, ◌++◌, map};
+ghost use Rattle.std.specs.Prelude.{length, slice_get, Some, IfOk, IfSome};
 ghost use Rattle.dr_ring.specs.Seats.{new_user};
 ghost use Rattle.dr_rings.specs.Seated.{IfAt};
 

@@ -10,7 +10,8 @@ pub record State : Type 0 where
   pub seats : List KernelView
   pub over : Bool
 
--- what is left of a machine: its guest, what has happened, the newest event first, and the kernel seat of each vCPU
+-- what is left of a machine: its guest, what has happened, the newest event first,
+-- and the kernel seat of each vCPU
 pub record Left : Type 0 where
   pub guest : Guest
   pub past : List Event

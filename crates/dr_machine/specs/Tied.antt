@@ -13,8 +13,10 @@ pub record AreRingsFor (guest : Guest) (rings : List TableId) : Type 0 where
   pub one_each : length rings ≡ vcpu_count guest
   pub sized : All (IsOfSize guest.settings.ring) rings
 
--- the log is of this guest, with these rings and slots, and each kernel seat has pushed and reset what the events say
-pub record AreTied (guest : Guest) (rings : List TableId) (slots : List SlotRow) (log : log.State) (seats : List KernelView) : Type 0 where
+-- the log is of this guest, with these rings and slots,
+-- and each kernel seat has pushed and reset what the events say
+pub record AreTied (guest : Guest) (rings : List TableId) (slots : List SlotRow)
+    (log : log.State) (seats : List KernelView) : Type 0 where
   pub guest_is : log.guest ≡ guest
   pub slots_are : slots ≡ guest.slots
   pub rings_are : AreRingsFor guest rings

@@ -1,5 +1,6 @@
 ghost use Rattle.std.specs.Prelude.{◌≡◌, length};
 ghost use Rattle.dr_types.specs.Scripts.{vcpu_count};
+ghost use Rattle.dr_types.specs.Validity.{IsValid};
 ghost use Rattle.dr_history.specs.Legality.{IsLegal};
 ghost use Rattle.dr_seats.specs.Seats.{AreSeats};
 
@@ -9,8 +10,9 @@ use dr_types::Guest;
 use std::marker::Model;
 
 /// What is left of a machine, without the name: its guest, what has happened to it, and the kernel
-/// seats of its rings, one for each vCPU. Its type keeps that the history is legal for the guest, and
-/// that each seat has pushed and reset what the events say. Only a machine makes one.
+/// seats of its rings, one for each vCPU. Its type keeps that the guest is valid, that the history is
+/// legal for it, and that each seat has pushed and reset what the events say. Only a machine makes
+/// one.
 #[derive(Drop)]
 pub struct Kept {
     guest: Guest,
@@ -21,6 +23,7 @@ pub struct Kept {
 impl Model for Kept {
     ghost use Rattle.std.specs.Prelude.{◌≡◌, length};
     ghost use Rattle.dr_types.specs.Scripts.{vcpu_count};
+    ghost use Rattle.dr_types.specs.Validity.{IsValid};
     ghost use Rattle.dr_history.specs.Legality.{IsLegal};
     ghost use Rattle.dr_seats.specs.Seats.{AreSeats};
     ghost use Rattle.dr_machine.specs.States.{Left};
@@ -30,13 +33,14 @@ impl Model for Kept {
     ghost view = { λ k. record { guest = k.guest; past = k.history.past; seats = k.seats } };
 
     ghost invariant = { λ k.
-        IsLegal k.guest k.history.past × AreSeats k.guest k.history.past k.seats
-        × (length k.seats ≡ vcpu_count k.guest) };
+        IsValid k.guest × IsLegal k.guest k.history.past
+        × AreSeats k.guest k.history.past k.seats × (length k.seats ≡ vcpu_count k.guest) };
 }
 
 impl Kept {
     /// Of a machine's parts.
     pub(crate) fn of(guest: Guest, history: History, seats: KernelSeatList) -> Kept
+        requires valid { IsValid guest }
         requires legal { IsLegal guest history.past }
         requires seats { AreSeats guest history.past seats }
         requires one_each { length seats ≡ vcpu_count guest }
@@ -51,9 +55,10 @@ impl Kept {
         }
     }
 
-    /// The guest.
+    /// The guest, which is valid.
     pub fn guest(&self) -> &Guest
-        ensures { result.now ≡ self.now.guest }
+        ensures is { result.now ≡ self.now.guest }
+        ensures valid { IsValid result.now }
     {
         &self.guest
     }

@@ -1,5 +1,5 @@
 -- What a vCPU's turns leave, at which the migrator waits for it to execute.
-use Rattle.std.proofs.Common.{inl, inr, ◌≡◌, ℕ, ◌<◌, ◌≤◌, Bool, true, false, List, [], ◌∷◌, ◌++◌, length, refl, ap, sym, ◌∙◌, arith}
+use Rattle.std.proofs.Common.{inl, inr, ◌≡◌, ℕ, ◌<◌, ◌≤◌, Bool, true, false, List, [], ◌∷◌, ◌++◌, length, refl, ap, ◌∙◌, arith, length-append}
 use Rattle.std.specs.Prelude.{◌⊎◌, is_some}
 use Rattle.dr_types.specs.declared.guest.Guest.{Guest}
 use Rattle.dr_types.specs.Scripts.{operation}
@@ -13,14 +13,14 @@ use Rattle.dr_history.specs.Vcpus.{in_guest, is_full}
 use Rattle.dr_turns.specs.Due.{advanced}
 use Rattle.dr_turns.specs.Turns.{after_op, after_exit}
 use Rattle.dr_turns.specs.declared.answers.Advance.TheVariants as advance
-use Rattle.dr_schedule.specs.Reaps.{AreInStep, Extends, reaped}
-use Rattle.dr_schedule.specs.Schedule.{AtRest, IsScheduled, exited, reaps_after_full}
+use Rattle.dr_schedule.specs.Reaps.{AreDepositedUpTo, Extends, reaped}
+use Rattle.dr_schedule.specs.Schedule.{CutAtTurn, exited, reaps_after_full}
 use Rattle.dr_schedule.specs.Waiting.{AwaitsOp}
 use Rattle.dr_schedule.proofs.Cutting.{own_is_reaped}
 use Rattle.dr_schedule.proofs.Exiting.{exited_inside, exited_outside, inside_after_op}
 use Rattle.dr_schedule.proofs.Extending.{extends_longer, reap_extends}
 use Rattle.dr_schedule.proofs.Progress.{op_more, exit_more, reap_more_when_full}
-use Rattle.dr_schedule.proofs.Scheduled.{rests_op, rests_halt, rests_full, rest_is_scheduled, scheduled_op, scheduled_begins, part_begins}
+use Rattle.dr_schedule.proofs.Scheduled.{follows_still, follows_cut, op_follows, halt_follows, full_follows, op_cut, full_cut}
 use Rattle.dr_schedule.proofs.Telling.{has_op}
 use Rattle.dr_schedule.proofs.Timing.{op_times, exited_times, reap_times}
 use Rattle.dr_migrate.specs.Driving.{Acts, ActsInPart, Breaks, Moves}
@@ -59,7 +59,7 @@ pub record WaitsForOp (guest : Guest) (now v done : ℕ) (past : List Event) (st
   pub legal : IsLegalSoFar guest past
   pub answer : (advanced guest now past).0 ≡ advance.NotPaced v done
   pub awaits : AwaitsOp guest past v
-  pub in_step : AreInStep guest starts past
+  pub in_step : AreDepositedUpTo guest starts past
 
 full_more : (guest : Guest) (now v done : ℕ) (past : List Event) (starts : ℕ → ℕ) → WaitsForOp guest now v done past starts → is_full guest v past ≡ true
     → length past < length (reaped guest (reaps_after_full guest v) (exited guest v past))
@@ -76,7 +76,7 @@ full_more guest now v done past starts it full =
 moves_full : (guest : Guest) (now v done : ℕ) (old new : List Event) (starts : ℕ → ℕ) → WaitsForOp guest now v done old starts → is_full guest v old ≡ true
     → new ≡ reaped guest (reaps_after_full guest v) (exited guest v old) → Moves guest old new
 moves_full guest now v done old new starts it full is = rw is (record {
-  rests = λ at. rests_full guest now old v done at it.answer full;
+  follows = full_follows guest now old v done it.answer full;
   more = full_more guest now v done old starts it full;
   timeless = reap_times guest (reaps_after_full guest v) (exited guest v old) ∙ exited_times guest old v;
 })
@@ -89,7 +89,7 @@ moves_halt guest now v done old new starts it room halts is =
     let first : length old < length (after_op guest v old) = op_more guest old v some in
     let then : length (after_op guest v old) < length (after_exit guest v (after_op guest v old)) = exit_more guest (after_op guest v old) v in
     record {
-      rests = λ at. rw here (rests_halt guest now old v done at it.answer room halts);
+      follows = rw here (halt_follows guest now old v done it.answer room halts);
       more = rw here (omega (arith, first, then));
       timeless = ap times is ∙ exited_times guest (after_op guest v old) v ∙ op_times guest old v;
     }
@@ -97,7 +97,7 @@ moves_halt guest now v done old new starts it room halts is =
 moves_op : (guest : Guest) (now v done : ℕ) (old new : List Event) (starts : ℕ → ℕ) → WaitsForOp guest now v done old starts → is_full guest v old ≡ false
     → is_halt (operation guest v (ops v old)) ≡ false → new ≡ after_op guest v old → Moves guest old new
 moves_op guest now v done old new starts it room goes is = rw is (record {
-  rests = λ at. rests_op guest now old v done at it.answer room goes;
+  follows = op_follows guest now old v done it.answer room goes;
   more = op_more guest old v (has_op guest old v it.valid it.legal it.awaits);
   timeless = op_times guest old v;
 })
@@ -115,29 +115,51 @@ acts_move guest now v done old new starts it acts =
 -- nothing happened
 pub none_breaks : (guest : Guest) (old new : List Event) → new ≡ old → Breaks guest old new
 none_breaks guest old new is = rw is (record {
-  begins = λ at. scheduled_begins guest old (rest_is_scheduled guest old at);
-  timeless = record { others = []; parts = refl };
+  cut = follows_cut guest old old (follows_still guest old);
+  timeless = refl;
 })
 
--- a part of scheduled events begins the schedule, and names no other times
-pub part_breaks : (guest : Guest) (old new whole : List Event) → (AtRest guest old → IsScheduled guest whole) → times whole ≡ times old → Extends new whole → Breaks guest old new
-part_breaks guest old new whole scheduled same part = record {
-  begins = λ at. part_begins guest new whole (scheduled at) part;
-  timeless = record { others = times part.more; parts = sym same ∙ ap times part.parts ∙ times_append part.more new };
+none_added : (added rest : List ℕ) → length (added ++ rest) ≤ length rest → added ++ rest ≡ rest
+none_added [] rest few = refl
+none_added (t ∷ added) rest few = absurd (omega (arith, few, length-append added rest))
+
+-- where what comes next names no time, a first part of it names none
+times_between : (old new whole : List Event) → Extends old new → Extends new whole
+    → times whole ≡ times old → times new ≡ times old
+times_between old new whole begun within same =
+    let here : times new ≡ times begun.more ++ times old = ap times begun.parts ∙ times_append begun.more old in
+    let all : times whole ≡ times within.more ++ times new =
+    ap times within.parts ∙ times_append within.more new in
+    let few : length (times begun.more ++ times old) ≤ length (times old) =
+    omega (arith, ap length here, ap length all, ap length same, length-append (times within.more) (times new)) in
+    here ∙ none_added (times begun.more) (times old) few
+
+-- a first part of a reap names no time
+pub part_breaks : (guest : Guest) (old mid new whole : List Event) → CutAtTurn guest old new
+    → times mid ≡ times old → times whole ≡ times mid → Extends mid new → Extends new whole
+    → Breaks guest old new
+part_breaks guest old mid new whole cut first same begun within = record {
+  cut = cut;
+  timeless = times_between mid new whole begun within same ∙ first;
 }
 
-full_breaks : (guest : Guest) (now v done : ℕ) (old new : List Event) (starts : ℕ → ℕ) → WaitsForOp guest now v done old starts → is_full guest v old ≡ true → LeftInPart guest v old new → Breaks guest old new
+full_breaks : (guest : Guest) (now v done : ℕ) (old new : List Event) (starts : ℕ → ℕ)
+    → WaitsForOp guest now v done old starts → is_full guest v old ≡ true → LeftInPart guest v old new
+    → Breaks guest old new
 full_breaks guest now v done old new starts it full (inl none) = none_breaks guest old new none
 full_breaks guest now v done old new starts it full (inr part) =
-    let whole = reaped guest (reaps_after_full guest v) (exited guest v old) in
-    part_breaks guest old new whole (λ at. rest_is_scheduled guest whole (rests_full guest now old v done at it.answer full))
-    (reap_times guest (reaps_after_full guest v) (exited guest v old) ∙ exited_times guest old v) part
+    let mid : List Event = exited guest v old in
+    part_breaks guest old mid new (reaped guest (reaps_after_full guest v) mid)
+    (full_cut guest now old new v done it.answer full part.begun part.within)
+    (exited_times guest old v) (reap_times guest (reaps_after_full guest v) mid) part.begun part.within
 
-op_breaks : (guest : Guest) (now v done : ℕ) (old new : List Event) (starts : ℕ → ℕ) → WaitsForOp guest now v done old starts → is_full guest v old ≡ false → (new ≡ old) ⊎ (new ≡ after_op guest v old) → Breaks guest old new
+op_breaks : (guest : Guest) (now v done : ℕ) (old new : List Event) (starts : ℕ → ℕ)
+    → WaitsForOp guest now v done old starts → is_full guest v old ≡ false
+    → (new ≡ old) ⊎ (new ≡ after_op guest v old) → Breaks guest old new
 op_breaks guest now v done old new starts it room (inl none) = none_breaks guest old new none
 op_breaks guest now v done old new starts it room (inr is) = rw is (record {
-  begins = λ at. scheduled_begins guest (after_op guest v old) (scheduled_op guest now old v done at it.answer room);
-  timeless = record { others = []; parts = sym (op_times guest old v) };
+  cut = op_cut guest now old v done it.answer room;
+  timeless = op_times guest old v;
 })
 
 -- where they were broken off

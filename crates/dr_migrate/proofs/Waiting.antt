@@ -9,12 +9,12 @@ use Rattle.dr_history.specs.Times.{times}
 use Rattle.dr_turns.specs.Due.{advanced}
 use Rattle.dr_turns.specs.Turns.{after_exit}
 use Rattle.dr_turns.specs.declared.answers.Advance.TheVariants as advance
-use Rattle.dr_schedule.specs.Reaps.{AreInStep, Extends, reaped}
+use Rattle.dr_schedule.specs.Reaps.{AreDepositedUpTo, Extends, reaped}
 use Rattle.dr_schedule.specs.Schedule.{exited}
 use Rattle.dr_schedule.proofs.Cutting.{unreset_more}
 use Rattle.dr_schedule.proofs.Exiting.{exited_inside}
 use Rattle.dr_schedule.proofs.Progress.{exit_more}
-use Rattle.dr_schedule.proofs.Scheduled.{rests_out, rests_reap, rests_flush, rest_is_scheduled}
+use Rattle.dr_schedule.proofs.Scheduled.{exit_follows, reap_follows, flush_follows, reap_cut}
 use Rattle.dr_schedule.proofs.Telling.{not_out, not_reset}
 use Rattle.dr_schedule.proofs.Timing.{exited_times, reap_times}
 use Rattle.dr_migrate.specs.Driving.{Breaks, Moves}
@@ -25,28 +25,31 @@ pub out_moves : (guest : Guest) (now v : ℕ) (old new : List Event) → IsLegal
 out_moves guest now v old new legal answer is =
     let here : new ≡ after_exit guest v old = is ∙ exited_inside guest v old (not_out guest now old v legal answer).inside in
     record {
-      rests = λ at. rw here (rests_out guest now old v at legal answer);
+      follows = rw here (exit_follows guest now old v legal answer);
       more = rw here (exit_more guest old v);
       timeless = ap times is ∙ exited_times guest old v;
     }
 
 -- all rings were reaped
-pub reap_moves : (guest : Guest) (now v k : ℕ) (old new : List Event) (starts : ℕ → ℕ) → IsLegalSoFar guest old → AreInStep guest starts old → (advanced guest now old).0 ≡ advance.NotReset v k → new ≡ reaped guest None old → Moves guest old new
+pub reap_moves : (guest : Guest) (now v k : ℕ) (old new : List Event) (starts : ℕ → ℕ) → IsLegalSoFar guest old → AreDepositedUpTo guest starts old → (advanced guest now old).0 ≡ advance.NotReset v k → new ≡ reaped guest None old → Moves guest old new
 reap_moves guest now v k old new starts legal in_step answer is = rw is (record {
-  rests = λ at. rests_reap guest now old v k at answer;
+  follows = reap_follows guest now old v k answer;
   more = unreset_more guest starts old v k legal in_step (not_reset guest now old v k legal answer);
   timeless = reap_times guest None old;
 })
 
--- a part of that was done
-pub reap_breaks : (guest : Guest) (now v k : ℕ) (old new : List Event) → (advanced guest now old).0 ≡ advance.NotReset v k → Extends new (reaped guest None old) → Breaks guest old new
-reap_breaks guest now v k old new answer part =
-    part_breaks guest old new (reaped guest None old) (λ at. rest_is_scheduled guest (reaped guest None old) (rests_reap guest now old v k at answer)) (reap_times guest None old) part
+-- a first part of that was done
+pub reap_breaks : (guest : Guest) (now v k : ℕ) (old new : List Event)
+    → (advanced guest now old).0 ≡ advance.NotReset v k → Extends old new
+    → Extends new (reaped guest None old) → Breaks guest old new
+reap_breaks guest now v k old new answer begun within =
+    part_breaks guest old old new (reaped guest None old) (reap_cut guest now old new v k answer begun within)
+    refl (reap_times guest None old) begun within
 
 -- what was closing was flushed
 pub flush_moves : (guest : Guest) (now : ℕ) (old new : List Event) → (advanced guest now old).0 ≡ advance.NotFlushed → new ≡ Flushed ∷ old → Moves guest old new
 flush_moves guest now old new answer is = rw is (record {
-  rests = λ at. rests_flush guest now old at answer;
+  follows = flush_follows guest now old answer;
   more = omega arith;
   timeless = refl;
 })

@@ -1,5 +1,6 @@
 -- What a drive keeps from one step of the migrator to the next.
-use Rattle.std.specs.Prelude.{◌≡◌, ◌<◌, ◌≤◌, ◌⊎◌, ℕ, Bool, true, false, All, List, ◌++◌, length, Option, Some, None, Result, Ok, Err}
+use Rattle.std.specs.Prelude.{◌≡◌, ◌<◌, ◌≤◌, ◌⊎◌, ℕ, Bool, true, false, All}
+use Rattle.std.specs.Prelude.{List, ◌++◌, length, Option, Some, None, Result, Ok, Err}
 use Rattle.std.specs.List.{list_any}
 use Rattle.dr_types.specs.declared.guest.Guest.{Guest}
 use Rattle.dr_history.specs.declared.event.Event.{Event}
@@ -7,6 +8,7 @@ use Rattle.dr_history.specs.Kinds.{is_switched}
 use Rattle.dr_bound.specs.Bound.{most_events}
 use Rattle.dr_history.specs.Times.{times}
 use Rattle.dr_types.specs.declared.memory.Memory.{Memory}
+use Rattle.dr_types.specs.Ports.{Rose}
 use Rattle.dr_types.specs.Scripts.{operation}
 use Rattle.dr_types.specs.declared.step.Step.TheVariants as step
 use Rattle.dr_history.specs.Execution.{is_halt, ops}
@@ -23,33 +25,28 @@ use Rattle.dr_bench.specs.declared.bench.BenchFault.{BenchFault}
 use Rattle.dr_bench.specs.declared.bench.BenchFault.TheVariants as fault
 use Rattle.dr_collector.specs.Collected.{Collected}
 use Rattle.dr_schedule.specs.Reaps.{reaped}
-use Rattle.dr_schedule.specs.Schedule.{appends, AtRest, BeginsSchedule, exited, reaps_after_full}
+use Rattle.dr_schedule.specs.Schedule.{appends, exited, reaps_after_full, Follows, CutAtTurn}
 use Rattle.dr_settle.specs.Step.{AreInStep}
 use Rattle.dr_migrate.specs.Leaving.{LeftInPart}
 
--- the run goes on: no put failed, it wasn't given up, and of each vCPU the deposited entries are those that the collector
--- handed out
+-- the run goes on: no put failed, it wasn't given up, and of each vCPU the deposited entries are those that
+-- the collector handed out
 pub record GoesOn (guest : Guest) (it : BenchState) (collected : List Collected) : Type 0 where
   pub whole : it.failed ≡ false
   pub going : it.over ≡ false
   pub in_step : AreInStep guest it.past collected
 
--- Turns that came to their end: what was scheduled and called for nothing still is, there are more events, and no time
--- was named.
+-- Turns that came to their end: whole blocks of the schedule came, there are more events, and no time was
+-- named.
 pub record Moves (guest : Guest) (old new : List Event) : Type 0 where
-  pub rests : AtRest guest old → AtRest guest new
+  pub follows : Follows guest old new
   pub more : length old < length new
   pub timeless : times new ≡ times old
 
--- the events name no time but these, the last ones of them
-pub record NamesLast (old new : List Event) : Type 0 where
-  pub others : List ℕ
-  pub parts : times old ≡ others ++ times new
-
--- turns that were broken off: what was scheduled and called for nothing now begins a schedule, and no time was named
+-- turns that were broken off: blocks of the schedule came, cut at the end of a turn, and no time was named
 pub record Breaks (guest : Guest) (old new : List Event) : Type 0 where
-  pub begins : AtRest guest old → BeginsSchedule guest new
-  pub timeless : NamesLast old new
+  pub cut : CutAtTurn guest old new
+  pub timeless : times new ≡ times old
 
 -- where the run stands at its end
 abbrev pub IsEnd : Guest → List Event → RunEnd → Type 0
@@ -62,17 +59,26 @@ abbrev pub is_sink : BenchFault → Bool
 is_sink fault.Sink = true
 is_sink fault.Memory = false
 
+-- where a put failed, the outlet's count of faults has risen
+abbrev pub SinkRises : BenchFault → ℕ → ℕ → Type 0
+SinkRises fault.Sink before now = Rose before now
+SinkRises fault.Memory before now = Unit {0}
+
 -- what a vCPU did that was to execute, by what its turn told: it executed its next op, or its ring is full
 abbrev pub IsExecuted : Guest → ℕ → List Event → List Event → Turn → Type 0
 IsExecuted guest v old new (turn.Done step.Halted) =
-    (is_full guest v old ≡ false) × (is_halt (operation guest v (ops v old)) ≡ true) × (new ≡ after_op guest v old)
+    (is_full guest v old ≡ false)
+    × (is_halt (operation guest v (ops v old)) ≡ true)
+    × (new ≡ after_op guest v old)
 IsExecuted guest v old new (turn.Done s) =
-    (is_full guest v old ≡ false) × (is_halt (operation guest v (ops v old)) ≡ false) × (new ≡ after_op guest v old)
+    (is_full guest v old ≡ false)
+    × (is_halt (operation guest v (ops v old)) ≡ false)
+    × (new ≡ after_op guest v old)
 IsExecuted guest v old new (turn.Full used soft) = (is_full guest v old ≡ true) × (new ≡ old)
 IsExecuted guest v old new t = ⊥
 
--- what a vCPU's turns leave that was to execute: with a full ring it left and rings were reaped; behind a halt it left;
--- else it executed its next op
+-- what a vCPU's turns leave that was to execute: with a full ring it left and rings were reaped; behind a
+-- halt it left; else it executed its next op
 pub record Acts (guest : Guest) (v : ℕ) (old new : List Event) : Type 0 where
   pub full : is_full guest v old ≡ true → new ≡ reaped guest (reaps_after_full guest v) (exited guest v old)
   pub halts : is_full guest v old ≡ false → is_halt (operation guest v (ops v old)) ≡ true
@@ -80,20 +86,22 @@ pub record Acts (guest : Guest) (v : ℕ) (old new : List Event) : Type 0 where
   pub runs : is_full guest v old ≡ false → is_halt (operation guest v (ops v old)) ≡ false
       → new ≡ after_op guest v old
 
--- .. that were broken off: nothing was done, or with a full ring it left and a part of the reap was done, or it executed
--- its next op
+-- .. that were broken off: nothing was done, or with a full ring it left and a part of the reap was done, or
+-- it executed its next op
 pub record ActsInPart (guest : Guest) (v : ℕ) (old new : List Event) : Type 0 where
   pub full : is_full guest v old ≡ true → LeftInPart guest v old new
   pub runs : is_full guest v old ≡ false → (new ≡ old) ⊎ (new ≡ after_op guest v old)
 
--- where the times in the events were read from a clock, they still are
-pub record StaysRead (reads : ℕ → Type 0) (old new : List Event) : Type 0 where
-  pub all : All reads (times old) → All reads (times new)
+-- the times in the events are those of before and some that the clock reads
+pub record AddsRead (reads : ℕ → Type 0) (old new : List Event) : Type 0 where
+  pub added : List ℕ
+  pub parts : times new ≡ added ++ times old
+  pub read : All reads added
 
--- the run goes on behind a step: what was scheduled and called for nothing still is, and there are more events, but no
--- more than a guest can have
+-- the run goes on behind a step: whole blocks of the schedule came, and there are more events, but no more
+-- than a guest can have
 pub record Continues (guest : Guest) (old new : List Event) : Type 0 where
-  pub rests : AtRest guest old → AtRest guest new
+  pub follows : Follows guest old new
   pub more : length old < length new
   pub few : length new ≤ most_events guest
 
@@ -101,14 +109,6 @@ pub record Continues (guest : Guest) (old new : List Event) : Type 0 where
 pub record Ends (guest : Guest) (e : RunEnd) (old new : List Event) : Type 0 where
   pub here : new ≡ old
   pub end : IsEnd guest new e
-
--- what was scheduled and called for nothing still is
-pub record StaysScheduled (guest : Guest) (old new : List Event) : Type 0 where
-  pub rests : AtRest guest old → AtRest guest new
-
--- what was scheduled and called for nothing now begins a schedule
-pub record IsCutOff (guest : Guest) (old new : List Event) : Type 0 where
-  pub begins : AtRest guest old → BeginsSchedule guest new
 
 -- what is done where the migrator waits, by what comes of it
 abbrev pub Waited : Guest → Result (Option RunEnd) Memory → List Event → List Event → Type 0
@@ -120,7 +120,7 @@ Waited guest (Err why) old new = Breaks guest old new
 abbrev pub Stepped : Guest → Result (Option RunEnd) BenchFault → List Event → List Event → Type 0
 Stepped guest (Ok None) old new = Continues guest old new
 Stepped guest (Ok (Some e)) old new = Ends guest e old new
-Stepped guest (Err why) old new = IsCutOff guest old new
+Stepped guest (Err why) old new = CutAtTurn guest old new
 
 -- what the migrator's step leaves: more events where it appends some, and else those that were
 pub record HasAdvanced (guest : Guest) (now : ℕ) (step : Advance) (old new : List Event) : Type 0 where
@@ -129,8 +129,9 @@ pub record HasAdvanced (guest : Guest) (now : ℕ) (step : Advance) (old new : L
   pub waits : appends step ≡ false → new ≡ old
 
 -- so far, from the first of these events to the last, a drive has gone on
-pub record HasDriven (reads : ℕ → Type 0) (guest : Guest) (old new : BenchState) (collected : List Collected) : Type 0 where
+pub record HasDriven (reads : ℕ → Type 0) (guest : Guest) (old new : BenchState)
+    (collected : List Collected) : Type 0 where
   pub going : GoesOn guest new collected
-  pub rests : AtRest guest old.past → AtRest guest new.past
-  pub times : All reads (times old.past) → All reads (times new.past)
+  pub follows : Follows guest old.past new.past
+  pub times : AddsRead reads old.past new.past
   pub later : old.faults ≤ new.faults

@@ -5,6 +5,11 @@ use Rattle.dr_history.specs.declared.event.Event.{Event}
 use Rattle.dr_schedule.specs.Reaps.{Extends, reaped}
 use Rattle.dr_schedule.specs.Schedule.{exited, reaps_after_full}
 
--- nothing was done, or the vCPU left and a part of the reap was done
+-- the vCPU left, and some first events of the reap that follows came
+pub record LeavesInReap (guest : Guest) (v : ℕ) (old new : List Event) : Type 0 where
+  pub begun : Extends (exited guest v old) new
+  pub within : Extends new (reaped guest (reaps_after_full guest v) (exited guest v old))
+
+-- nothing was done, or the vCPU left and a first part of the reap was done
 abbrev pub LeftInPart : Guest → ℕ → List Event → List Event → Type 0
-LeftInPart guest v old new = (new ≡ old) ⊎ Extends new (reaped guest (reaps_after_full guest v) (exited guest v old))
+LeftInPart guest v old new = (new ≡ old) ⊎ LeavesInReap guest v old new

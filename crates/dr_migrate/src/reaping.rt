@@ -27,6 +27,7 @@ pub fn reap_after_full<N: Name, O: Outlet>(
     ensures reaped { let whose = reaps_after_full N.guest v in
         OnOk result (bench.new.past ≡ reaped N.guest whose bench.old.past) }
     ensures in_step { OnOk result (AreInStep N.guest bench.new.past collector.new) }
+    ensures begun { OnErr result (Extends bench.old.past bench.new.past) }
     ensures part { let whose = reaps_after_full N.guest v in
         OnErr result (Extends bench.new.past (reaped N.guest whose bench.old.past)) }
     ensures over { bench.new.over ≡ bench.old.over }

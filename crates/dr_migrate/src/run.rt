@@ -1,11 +1,13 @@
-ghost use Rattle.std.specs.Prelude.{◌≡◌, ◌<◌, ◌≤◌, ℕ, All, false, Some, None, IfOk, IfErr, OnOk, OnErr, length};
+ghost use Rattle.std.specs.Prelude.{◌≡◌, ◌<◌, ◌≤◌, ℕ, All, false, Some, None};
+ghost use Rattle.std.specs.Prelude.{IfOk, IfErr, OnOk, OnErr, length};
 ghost use Rattle.dr_history.specs.Times.{times};
 ghost use Rattle.dr_bound.specs.Bound.{most_events};
 ghost use Rattle.dr_bench.specs.Bench.{SameOutlet};
-ghost use Rattle.dr_schedule.specs.Schedule.{appends};
+ghost use Rattle.dr_schedule.specs.Schedule.{appends, Follows, CutAtTurn};
 ghost use Rattle.dr_schedule.specs.Timed.{MayAddTime};
 ghost use Rattle.dr_turns.specs.Due.{advanced};
-ghost use Rattle.dr_migrate.specs.Driving.{GoesOn, HasAdvanced, IsCutOff, IsEnd, StaysRead, StaysScheduled, Stepped, Waited, is_sink};
+ghost use Rattle.dr_migrate.specs.Driving.{AddsRead, GoesOn, HasAdvanced, IsEnd, SinkRises};
+ghost use Rattle.dr_migrate.specs.Driving.{Stepped, Waited, is_sink};
 
 use crate::steps::{appends, flush, kick_out, reap, run_vcpu};
 use dr_bench::{Bench, BenchFault};
@@ -27,9 +29,10 @@ fn advance<N: Name, O: Outlet>(
     ensures advanced { IfOk result (λ step.
         HasAdvanced N.guest now step bench.old.past bench.new.past) }
     ensures going { OnOk result (GoesOn N.guest bench.new collector.now) }
-    ensures cut { OnErr result (IsCutOff N.guest bench.old.past bench.new.past) }
+    ensures cut { OnErr result (CutAtTurn N.guest bench.old.past bench.new.past) }
     ensures times { MayAddTime now bench.old.past bench.new.past }
     ensures sink { IfErr result (λ why. bench.new.failed ≡ is_sink why) }
+    ensures risen { IfErr result (λ why. SinkRises why bench.old.faults bench.new.faults) }
     ensures later { bench.old.faults ≤ bench.new.faults }
 {
     let step = bench.advance(now)?;
@@ -89,8 +92,9 @@ fn step<N: Name, O: Outlet, C: Clock>(
     ensures stepped { Stepped N.guest result bench.old.past bench.new.past }
     ensures going { OnOk result (GoesOn N.guest bench.new collector.new) }
     ensures sink { IfErr result (λ why. bench.new.failed ≡ is_sink why) }
+    ensures risen { IfErr result (λ why. SinkRises why bench.old.faults bench.new.faults) }
     ensures later { bench.old.faults ≤ bench.new.faults }
-    ensures times { StaysRead (C.reads clock.now) bench.old.past bench.new.past }
+    ensures times { AddsRead (C.reads clock.now) bench.old.past bench.new.past }
 {
     let now = clock.now_us();
     let step = advance(bench, collector, now)?;
@@ -107,8 +111,10 @@ fn step<N: Name, O: Outlet, C: Clock>(
 /// with a full ring it leaves, its ring is reaped, or all are where there is no quota, and it sleeps
 /// for its throttle. A kicked vCPU leaves. Where entries are to be reset all rings are reaped; where
 /// pages are closing they are flushed. Each of these adds an event, and a guest has no more than
-/// `most_events`, so it comes to an end.
-#[tactic(auto, using(crate::proofs::Running::drive_begins, crate::proofs::Running::drive_continues, crate::proofs::Running::drive_ends, crate::proofs::Running::drive_cut, crate::proofs::Running::drive_times))]
+/// `most_events`, so it comes to an end. After an `Err` bench, collector and rings are where the last
+/// turn that was made left them: at `Sink` what the migrator's step appended stands and the run is
+/// given up; at `Memory` the turn that found none changed nothing.
+#[tactic(auto, using(crate::proofs::Running::drive_begins, crate::proofs::Running::drive_continues, crate::proofs::Running::drive_ends, crate::proofs::Running::drive_cut, crate::proofs::Running::drive_times, crate::proofs::Running::drive_rises))]
 pub fn drive<N: Name, O: Outlet, C: Clock>(
     alloc: Global,
     bench: &mut Bench<N, O>,
@@ -119,11 +125,12 @@ pub fn drive<N: Name, O: Outlet, C: Clock>(
     requires going { GoesOn N.guest bench.old collector.old }
     ensures end { IfOk result (IsEnd N.guest bench.new.past) }
     ensures going { OnOk result (GoesOn N.guest bench.new collector.new) }
-    ensures scheduled { OnOk result (StaysScheduled N.guest bench.old.past bench.new.past) }
-    ensures cut { OnErr result (IsCutOff N.guest bench.old.past bench.new.past) }
+    ensures scheduled { OnOk result (Follows N.guest bench.old.past bench.new.past) }
+    ensures cut { OnErr result (CutAtTurn N.guest bench.old.past bench.new.past) }
     ensures sink { IfErr result (λ why. bench.new.failed ≡ is_sink why) }
+    ensures risen { IfErr result (λ why. SinkRises why bench.old.faults bench.new.faults) }
     ensures later { bench.old.faults ≤ bench.new.faults }
-    ensures times { StaysRead (C.reads clock.now) bench.old.past bench.new.past }
+    ensures times { AddsRead (C.reads clock.now) bench.old.past bench.new.past }
 {
     loop {
         match step(alloc, bench, collector, rings, clock)? {

@@ -4,7 +4,8 @@ ghost use Rattle.dr_bench.specs.Bench.{SameOutlet};
 ghost use Rattle.dr_schedule.specs.Waiting.{AwaitsOp};
 ghost use Rattle.dr_schedule.specs.Schedule.{appends};
 ghost use Rattle.dr_turns.specs.Due.{advanced};
-ghost use Rattle.dr_migrate.specs.Driving.{Acts, ActsInPart, Breaks, GoesOn, IsEnd, IsExecuted, Moves, is_sink};
+ghost use Rattle.dr_migrate.specs.Driving.{Acts, ActsInPart, Breaks, GoesOn};
+ghost use Rattle.dr_migrate.specs.Driving.{IsEnd, IsExecuted, Moves, is_sink};
 
 use crate::leaving::{exit, leave_full};
 use dr_bench::{Bench, BenchFault};

@@ -17,8 +17,8 @@ use Rattle.dr_machine.specs.States.{Left}
 use Rattle.dr_run.specs.declared.outcome.OutcomeEnd.{OutcomeEnd}
 use Rattle.dr_run.specs.declared.outcome.OutcomeEnd.TheVariants as outcome
 use Rattle.dr_run.specs.Outcomes.{EndsAs, SendsAs, ends_switched}
-use Rattle.dr_schedule.specs.Schedule.{BeginsSchedule}
-use Rattle.dr_schedule.proofs.Scheduled.{scheduled_begins}
+use Rattle.dr_schedule.specs.Schedule.{CutAtTurn}
+use Rattle.dr_schedule.proofs.Scheduled.{scheduled_cut}
 use Rattle.dr_turns.specs.Due.{run_end}
 use Rattle.dr_turns.specs.declared.answers.RunEnd.{RunEnd}
 use Rattle.dr_turns.specs.declared.answers.RunEnd.TheVariants as end
@@ -47,28 +47,43 @@ cut_switched guest past old mid new ends sends cut =
     cut_behind Stream (stream_of guest past) (puts_behind (run_end guest past) guest past) old mid new sends
     (subst (λ (e : RunEnd). PutsCut (puts_behind e guest past) mid new) (sym (stands_switched guest past ends.last)) cut)
 
--- however a run ended, its events begin a schedule
-pub begins_anyhow : (guest : Guest) (past : List Event) (e : OutcomeEnd) → EndsAs e guest past → BeginsSchedule guest past
-begins_anyhow guest past outcome.Switched ends = scheduled_begins guest past ends.scheduled
-begins_anyhow guest past outcome.Budget ends = scheduled_begins guest past ends.scheduled
-begins_anyhow guest past outcome.Sink ends = ends
-begins_anyhow guest past outcome.Memory ends = ends
+-- however a run ended, its events are blocks of the schedule, cut at the end of a turn
+pub cut_anyhow : (guest : Guest) (past : List Event) (e : OutcomeEnd) → EndsAs e guest past
+    → CutAtTurn guest [] past
+cut_anyhow guest past outcome.Switched ends = scheduled_cut guest past ends.scheduled
+cut_anyhow guest past outcome.Budget ends = scheduled_cut guest past ends.scheduled
+cut_anyhow guest past outcome.Sink ends = ends
+cut_anyhow guest past outcome.Memory ends = ends
 
-cut_off : (guest : Guest) (left : Left) (old new : Ports) → IsRunOf guest left → BeginsSchedule guest left.past → PutsCut (puts_of guest left.past) old new
-    → IsCutOff guest left old new
-cut_off guest left old new run begins cut = record { run = run; begins = begins; promises = promises guest left.past run.legal.0; ports = cut }
+cut_off : (guest : Guest) (left : Left) (old new : Ports) → IsRunOf guest left → CutAtTurn guest [] left.past
+    → PutsCut (puts_of guest left.past) old new → IsCutOff guest left old new
+cut_off guest left old new run cut ports =
+    record { run = run; cut = cut; promises = promises guest left.past run.legal.0; ports = ports }
 
 -- what the status of a run says
-pub run_says : (guest : Guest) (left : Left) (old new : Ports) (r : Result Status PutFault) → IsValid guest → IsRunOf guest left → BeginsSchedule guest left.past
-    → IfOk r (λ s. EndsWhole s guest left.past) → OnOk r (new ≡ put_all (puts_of guest left.past) old) → OnErr r (PutsCut (puts_of guest left.past) old new)
+pub run_says : (guest : Guest) (left : Left) (old new : Ports) (r : Result Status PutFault) → IsValid guest
+    → IsRunOf guest left → CutAtTurn guest [] left.past → IfOk r (λ s. EndsWhole s guest left.past)
+    → OnOk r (new ≡ put_all (puts_of guest left.past) old)
+    → OnErr r (PutsCut (puts_of guest left.past) old new)
     → RunSays (status_of_end r) guest (Some left) old new
-run_says guest left old new (Ok Done) valid run begins whole done cut =
-    record { run = run; switched = whole; headline = headline guest left.past valid run.legal.0 (some_switched left.past whole.last); ports = done }
-run_says guest left old new (Ok Unfinished) valid run begins whole done cut =
-    record { run = run; spent = whole; rounds = spent_is_told guest left.past run.legal.0 whole.spent; promises = promises guest left.past run.legal.0; ports = done }
-run_says guest left old new (Ok s) valid run begins whole done cut = absurd whole
-run_says guest left old new (Err fault.Outlet) valid run begins whole done cut = cut_off guest left old new run begins cut
-run_says guest left old new (Err fault.Memory) valid run begins whole done cut = cut_off guest left old new run begins cut
+run_says guest left old new (Ok Done) valid run cut whole done ports = record {
+  run = run;
+  switched = whole;
+  headline = headline guest left.past valid run.legal.0 (some_switched left.past whole.last);
+  ports = done;
+}
+run_says guest left old new (Ok Unfinished) valid run cut whole done ports = record {
+  run = run;
+  spent = whole;
+  rounds = spent_is_told guest left.past run.legal.0 whole.spent;
+  promises = promises guest left.past run.legal.0;
+  ports = done;
+}
+run_says guest left old new (Ok s) valid run cut whole done ports = absurd whole
+run_says guest left old new (Err fault.Outlet) valid run cut whole done ports =
+    cut_off guest left old new run cut ports
+run_says guest left old new (Err fault.Memory) valid run cut whole done ports =
+    cut_off guest left old new run cut ports
 
 -- it says that a put failed only where the count of faults has risen
 pub outlet_rose : (guest : Guest) (past : List Event) (before now : ℕ) (r : Result Status PutFault) → IfOk r (λ s. EndsWhole s guest past) → IfErr r (IsFault before now)

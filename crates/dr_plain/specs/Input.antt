@@ -4,7 +4,8 @@ use Rattle.dr_types.specs.declared.guest.Guest.{Guest}
 use Rattle.dr_types.specs.declared.fault.FileFault.{FileFault}
 use Rattle.dr_types.specs.declared.fault.FileFault.TheVariants as fault
 use Rattle.dr_types.specs.declared.status.Status.{Status}
-use Rattle.dr_types.specs.declared.status.Status.TheVariants.{Done, Words, GuestFile, Unfinished, Outlet, Source, Memory, TooLong}
+use Rattle.dr_types.specs.declared.status.Status.TheVariants.{Done, Words, GuestFile, Unfinished}
+use Rattle.dr_types.specs.declared.status.Status.TheVariants.{Outlet, Source, Memory, TooLong}
 use Rattle.dr_types.specs.Ports.{Rose}
 use Rattle.dr_types.specs.Validity.{IsValid}
 use Rattle.dr_io.specs.Reading.{IsPartTaken}

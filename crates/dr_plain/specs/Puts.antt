@@ -19,8 +19,8 @@ use Rattle.dr_plain.specs.declared.ending.PutFault.TheVariants as fault
 abbrev pub texts_of : Guest → List Event → List (Port × List ℕ)
 texts_of guest past = (port.Report, report_of guest past) ∷ (port.Journal, journal_text guest past) ∷ []
 
--- what is put behind the stream, by where the run stands: the image only where the guest has switched over, and nothing
--- where the run was cut off
+-- what is put behind the stream, by where the run stands: the image only where the guest has switched over,
+-- and nothing where the run was cut off
 abbrev pub puts_behind : RunEnd → Guest → List Event → List (Port × List ℕ)
 puts_behind end.Switched guest past = (port.Image, image_of guest past) ∷ texts_of guest past
 puts_behind end.Budget guest past = texts_of guest past

@@ -1,9 +1,10 @@
 -- What a command leaves, by how it ended.
-use Rattle.std.specs.Prelude.{◌≡◌, ◌≢◌, ◌⊎◌, ℕ, ◌<◌, All, List, length, Option, Some, None}
+use Rattle.std.specs.Prelude.{◌≡◌, ◌≢◌, ◌⊎◌, ℕ, ◌<◌, All, List, [], length, Option, Some, None}
 use Rattle.dr_types.specs.declared.guest.Guest.{Guest}
 use Rattle.dr_types.specs.declared.fault.FileFault.TheVariants as fault
 use Rattle.dr_types.specs.declared.status.Status.{Status}
-use Rattle.dr_types.specs.declared.status.Status.TheVariants.{Done, Words, GuestFile, Unfinished, Outlet, Source, Memory, TooLong}
+use Rattle.dr_types.specs.declared.status.Status.TheVariants.{Done, Words, GuestFile, Unfinished}
+use Rattle.dr_types.specs.declared.status.Status.TheVariants.{Outlet, Source, Memory, TooLong}
 use Rattle.dr_types.specs.Ports.{Ports, put_all, PutsCut}
 use Rattle.dr_types.specs.Scripts.{vcpu_count}
 use Rattle.dr_types.specs.Validity.{IsValid}
@@ -12,14 +13,14 @@ use Rattle.dr_history.specs.Lines.{FitsLine}
 use Rattle.dr_headline.specs.Headline.{KeepsHeadline, KeepsPromises}
 use Rattle.dr_machine.specs.States.{Left}
 use Rattle.dr_run.specs.Outcomes.{HasSpent, HasSwitched}
-use Rattle.dr_schedule.specs.Schedule.{BeginsSchedule}
+use Rattle.dr_schedule.specs.Schedule.{CutAtTurn}
 use Rattle.dr_seats.specs.Seats.{AreSeats}
 use Rattle.dr_spent.specs.Spent.{AreSpent}
 use Rattle.dr_plain.specs.Input.{IfTold, IsRead, IsRefused, most_bytes}
 use Rattle.dr_plain.specs.Puts.{puts_of}
 
--- What is kept is of a machine that ran this guest: its history is legal, each event has a line of its own, and its rings,
--- one for each vCPU, have pushed and reset what the events say.
+-- What is kept is of a machine that ran this guest: its history is legal, each event has a line of its own,
+-- and its rings, one for each vCPU, have pushed and reset what the events say.
 pub record IsRunOf (guest : Guest) (kept : Left) : Type 0 where
   pub same : kept.guest ≡ guest
   pub legal : IsLegal guest kept.past
@@ -34,8 +35,8 @@ pub record IsMigrated (guest : Guest) (kept : Left) (old new : Ports) : Type 0 w
   pub headline : KeepsHeadline guest kept.past
   pub ports : new ≡ put_all (puts_of guest kept.past) old
 
--- All rounds of the guest are spent, by the schedule: each was answered with too many pages, which were copied. The
--- promises hold, and all that is to be put was put.
+-- All rounds of the guest are spent, by the schedule: each was answered with too many pages, which were
+-- copied. The promises hold, and all that is to be put was put.
 pub record IsUnfinished (guest : Guest) (kept : Left) (old new : Ports) : Type 0 where
   pub run : IsRunOf guest kept
   pub spent : HasSpent guest kept.past
@@ -43,11 +44,11 @@ pub record IsUnfinished (guest : Guest) (kept : Left) (old new : Ports) : Type 0
   pub promises : KeepsPromises guest kept.past
   pub ports : new ≡ put_all (puts_of guest kept.past) old
 
--- The run was cut off: its events begin a schedule, and the promises hold. Of the puts all before one were made, and a
--- first part of that one.
+-- The run was cut off at the end of a turn: its events are a first part of a schedule, and the promises hold.
+-- Of the puts all before one were made, and a first part of that one.
 pub record IsCutOff (guest : Guest) (kept : Left) (old new : Ports) : Type 0 where
   pub run : IsRunOf guest kept
-  pub begins : BeginsSchedule guest kept.past
+  pub cut : CutAtTurn guest [] kept.past
   pub promises : KeepsPromises guest kept.past
   pub ports : PutsCut (puts_of guest kept.past) old new
 

@@ -1,4 +1,5 @@
-ghost use Rattle.std.specs.Prelude.{◌≡◌, ◌↔◌, true, false, All, Some, None, IsSome, IfSome, map, string_bytes};
+ghost use Rattle.std.specs.Prelude.{◌≡◌, ◌↔◌, true, false, All, Some, None};
+ghost use Rattle.std.specs.Prelude.{IsSome, IfSome, map, string_bytes};
 ghost use Rattle.dr_types.specs.Ports.{Rose};
 ghost use Rattle.dr_history.specs.Times.{times};
 ghost use Rattle.dr_plain.specs.Input.{IfTold, IsGuestFile, Takes};
@@ -13,12 +14,14 @@ use dr_types::Status;
 use dr_words::is_step;
 use std::alloc::Global;
 
-/// How a command ended, with the outlet that was handed in, and what is kept of the machine of its
-/// run.
+/// How a command ended.
 #[derive(Drop)]
 pub struct PlainEnd<O: Outlet> {
+    /// The status; it is there for every command of today.
     pub status: Option<Status>,
+    /// The outlet that was handed in.
     pub out: O,
+    /// What is kept of the machine of a run, and nothing where no guest was run.
     pub kept: Option<Kept>,
 }
 
@@ -58,6 +61,8 @@ pub fn plain_main<S: Source, O: Outlet, C: Clock>(
         → Rose (O.faults out) (O.faults result.out) }
     ensures source { result.status ≡ Some Status.Source
         → Rose (S.faults src.old) (S.faults src.new) }
+    ensures unread { result.status ≡ Some Status.Words → src.new ≡ src.old }
+    ensures unput { result.kept ≡ None → result.out ≡ out }
 {
     if !is_step(words) {
         return quit(Status::Words, out);

@@ -1,4 +1,4 @@
-ghost use Rattle.std.specs.Prelude.{◌≡◌, ◌≤◌, All, Some, IfSome, length};
+ghost use Rattle.std.specs.Prelude.{◌≡◌, ◌≤◌, All, Some, None, IfSome, length};
 ghost use Rattle.dr_types.specs.Ports.{Rose};
 ghost use Rattle.dr_types.specs.Scripts.{vcpu_count};
 ghost use Rattle.dr_types.specs.Validity.{IsValid};
@@ -18,7 +18,8 @@ use dr_types::{Guest, Status};
 use std::alloc::Global;
 use std::marker::Brand;
 
-/// How a run ended, with its outlet, and what is kept of its machine.
+/// How a run ended, with its outlet, and what is kept of its machine: nothing where there was none, for
+/// want of memory.
 #[derive(Drop)]
 pub struct StepEnd<O: Outlet> {
     pub status: Status,
@@ -90,6 +91,7 @@ fn step_named<N: Name, O: Outlet, C: Clock>(
     ensures says { RunSays result.status guest result.kept (O.told out) (O.told result.out) }
     ensures times { IfSome result.kept (λ k. All (C.reads clock.now) (times k.past)) }
     ensures outlet { result.status ≡ Status.Outlet → Rose (O.faults out) (O.faults result.out) }
+    ensures unput { result.kept ≡ None → result.out ≡ out }
 {
     let RunOutcome { outcome, out } = step_run::<N, O, C>(alloc, guest, set, out, clock);
     let Outcome { machine, end } = outcome;
@@ -109,6 +111,7 @@ pub fn step<O: Outlet, C: Clock>(alloc: Global, guest: Guest, out: O, clock: &C)
     ensures says { RunSays result.status guest result.kept (O.told out) (O.told result.out) }
     ensures times { IfSome result.kept (λ k. All (C.reads clock.now) (times k.past)) }
     ensures outlet { result.status ≡ Status.Outlet → Rose (O.faults out) (O.faults result.out) }
+    ensures unput { result.kept ≡ None → result.out ≡ out }
 {
     match rings_for(alloc, &guest) {
         Ok(set) => step_named::<Brand, O, C>(alloc, guest, set, out, clock),

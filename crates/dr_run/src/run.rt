@@ -87,6 +87,7 @@ fn run<N: Name, O: Outlet, C: Clock>(
     requires faults { O.faults out ≡ N.faults }
     ensures none { result.outcome.machine ≡ None
         → HasNone result.outcome.end (O.told out) (O.told result.out) }
+    ensures unput { result.outcome.machine ≡ None → result.out ≡ out }
     ensures legal { IfSome result.outcome.machine (λ m. IsLegal N.guest m.past) }
     ensures ends { IfSome result.outcome.machine (λ m.
         EndsAs result.outcome.end N.guest m.past) }
@@ -133,6 +134,7 @@ pub fn step_run<N: Name, O: Outlet, C: Clock>(
     requires faults { O.faults out ≡ N.faults }
     ensures none { result.outcome.machine ≡ None
         → HasNone result.outcome.end (O.told out) (O.told result.out) }
+    ensures unput { result.outcome.machine ≡ None → result.out ≡ out }
     ensures legal { IfSome result.outcome.machine (λ m. IsLegal N.guest m.past) }
     ensures ends { IfSome result.outcome.machine (λ m.
         EndsAs result.outcome.end N.guest m.past) }

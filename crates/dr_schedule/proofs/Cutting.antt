@@ -1,4 +1,4 @@
--- A reap of the schedule: that it makes progress, and that a part of it begins a schedule.
+-- A reap of the schedule: whose rings it reaps, and that it makes progress.
 use Rattle.std.proofs.Common.{◌≡◌, ℕ, ◌<◌, ◌≤◌, Bool, true, false, cond, List, None, refl, ap, arith, length}
 use Rattle.std.specs.Prelude.{Some, nat_le}
 use Rattle.std.proofs.lemmas.Bool.{eq-eqb, le-leb, lt-leb}
@@ -8,15 +8,10 @@ use Rattle.dr_types.specs.Validity.{IsValid}
 use Rattle.dr_history.specs.declared.event.Event.{Event}
 use Rattle.dr_history.specs.Legality.{IsLegalSoFar}
 use Rattle.dr_history.specs.Vcpus.{is_full}
-use Rattle.dr_turns.specs.declared.answers.Advance.TheVariants as advance
-use Rattle.dr_turns.specs.Due.{advanced}
-use Rattle.dr_schedule.specs.Settled.{Range, SettlesPart}
-use Rattle.dr_schedule.specs.Reaps.{is_reaped, AreInStep, AreRests, reaped}
-use Rattle.dr_schedule.specs.Schedule.{exited, reaps_after_full, AtRest, BeginsSchedule}
+use Rattle.dr_schedule.specs.Reaps.{is_reaped, AreDepositedUpTo, reaped}
+use Rattle.dr_schedule.specs.Schedule.{exited, reaps_after_full}
 use Rattle.dr_schedule.specs.Waiting.{AwaitsReset}
 use Rattle.dr_schedule.proofs.Progress.{reap_more_when_full, reap_more_when_unreset, full_exited}
-use Rattle.dr_schedule.proofs.Scheduled.{rests_full, rests_reap, rest_is_scheduled, part_begins}
-use Rattle.dr_schedule.proofs.Settling.{settling_cut}
 
 own_case : (some : Bool) (v : ℕ) → is_reaped (cond some (Some v) None) v ≡ true
 own_case true v = eq-eqb v v refl
@@ -38,7 +33,7 @@ all_are_reaped guest v none =
 -- the reap after an exit with a full ring makes the events more
 pub full_more : (guest : Guest) (starts : ℕ → ℕ) (past : List Event) (v : ℕ) → IsValid guest
     → v < vcpu_count guest → is_full guest v past ≡ true → IsLegalSoFar guest (exited guest v past)
-    → AreInStep guest starts (exited guest v past) → length (exited guest v past) < length
+    → AreDepositedUpTo guest starts (exited guest v past) → length (exited guest v past) < length
     (reaped guest (reaps_after_full guest v) (exited guest v past))
 full_more guest starts past v valid lt full legal step =
     reap_more_when_full guest (reaps_after_full guest v) starts (exited guest v past) v valid legal step lt
@@ -46,30 +41,7 @@ full_more guest starts past v valid lt full legal step =
 
 -- and so does the reap of all
 pub unreset_more : (guest : Guest) (starts : ℕ → ℕ) (past : List Event) (v k : ℕ) → IsLegalSoFar guest past
-    → AreInStep guest starts past → AwaitsReset guest past v k
+    → AreDepositedUpTo guest starts past → AwaitsReset guest past v k
     → length past < length (reaped guest None past)
 unreset_more guest starts past v k legal step awaits =
     reap_more_when_unreset guest starts past v legal step awaits.out awaits.first
-
--- NotPaced, with a full ring: a part of the reap behind the exit begins a schedule
-pub full_part_begins : (guest : Guest) (now : ℕ) (starts : ℕ → ℕ) (rs : List Range) (past new : List Event)
-    (v done : ℕ) → AtRest guest past → (advanced guest now past).0 ≡ advance.NotPaced v done
-    → is_full guest v past ≡ true → IsLegalSoFar guest (exited guest v past)
-    → AreInStep guest starts (exited guest v past) → AreRests guest (reaps_after_full guest v) starts rs
-    (exited guest v past)
-    → SettlesPart guest rs (exited guest v past) new → BeginsSchedule guest new
-full_part_begins guest now starts rs past new v done at is full legal step rests part =
-    part_begins guest new (reaped guest (reaps_after_full guest v) (exited guest v past))
-    (rest_is_scheduled guest (reaped guest (reaps_after_full guest v) (exited guest v past))
-    (rests_full guest now past v done at is full))
-    (settling_cut guest (reaps_after_full guest v) starts rs (exited guest v past) new legal step rests part)
-
--- NotReset: a part of the reap of all begins a schedule
-pub reap_part_begins : (guest : Guest) (now : ℕ) (starts : ℕ → ℕ) (rs : List Range) (past new : List Event)
-    (v k : ℕ) → AtRest guest past → (advanced guest now past).0 ≡ advance.NotReset v k
-    → IsLegalSoFar guest past → AreInStep guest starts past → AreRests guest None starts rs past
-    → SettlesPart guest rs past new → BeginsSchedule guest new
-reap_part_begins guest now starts rs past new v k at is legal step rests part =
-    part_begins guest new (reaped guest None past)
-    (rest_is_scheduled guest (reaped guest None past) (rests_reap guest now past v k at is))
-    (settling_cut guest None starts rs past new legal step rests part)

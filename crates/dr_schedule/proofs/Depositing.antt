@@ -10,7 +10,7 @@ use Rattle.dr_history.specs.declared.event.Event.{Event}
 use Rattle.dr_history.specs.Entries.{pushes}
 use Rattle.dr_history.specs.Rules.{deposits_entry}
 use Rattle.dr_schedule.specs.Settled.{Range, range_of, of_vcpu, in_order, deposited_one, deposited_all}
-use Rattle.dr_schedule.specs.Reaps.{is_reaped, AreFirstDeposited, AreInStep, AreRests, starts_after, first_undeposited, deposited_from, rest_deposited, rests_deposited}
+use Rattle.dr_schedule.specs.Reaps.{is_reaped, AreFirstDeposited, AreDepositedUpTo, AreRests, starts_after, first_undeposited, deposited_from, rest_deposited, rests_deposited}
 use Rattle.dr_schedule.proofs.Reaping.{by_deposited}
 use Rattle.dr_schedule.proofs.Rests.{next_undeposited, none_undeposited, rest_is_range}
 
@@ -125,7 +125,7 @@ one_rest false v n p here past is le first list = ap (λ (rs : List Range). depo
 -- The ranges of the first vCPUs are deposited as their rests.
 pub rests_are_ranges : (guest : Guest) (whose : Option ℕ) (starts : ℕ → ℕ) (rs : List Range) (n : ℕ)
     (past : List Event) → n ≤ vcpu_count guest → AreRests guest whose starts rs past
-    → AreInStep guest starts past → ((v : ℕ) → v < vcpu_count guest → starts v ≤ pushes v past)
+    → AreDepositedUpTo guest starts past → ((v : ℕ) → v < vcpu_count guest → starts v ≤ pushes v past)
     → rests_deposited whose n past ≡ deposited_all (in_order n rs) past
 rests_are_ranges guest whose starts rs zero past le rests step few = refl
 rests_are_ranges guest whose starts rs (suc n) past le rests step few =

@@ -18,5 +18,4 @@ pub mod Scheduled
 pub mod Timing
 pub mod Stepping
 pub mod Cutting
-pub mod Turning
 pub mod Fitting

@@ -20,7 +20,7 @@ use Rattle.dr_turns.specs.Turns.{executed, after_op, after_exit}
 use Rattle.dr_turns.proofs.Buffers.{own_pushes}
 use Rattle.dr_turns.proofs.Executing.{by_executed}
 use Rattle.dr_turns.proofs.Found.{first_none, first_some}
-use Rattle.dr_schedule.specs.Reaps.{is_reaped, AreInStep, reaped}
+use Rattle.dr_schedule.specs.Reaps.{is_reaped, AreDepositedUpTo, reaped}
 use Rattle.dr_schedule.specs.Schedule.{exited}
 use Rattle.dr_schedule.proofs.Exiting.{no_op}
 use Rattle.dr_schedule.proofs.Extending.{extends_strictly, reap_extends}
@@ -65,7 +65,7 @@ exited_longer guest past v =
 
 -- a reap makes them more, where some entry is used of a vCPU that is reaped
 pub reap_more : (guest : Guest) (whose : Option ℕ) (starts : ℕ → ℕ) (past : List Event) (v : ℕ)
-    → IsLegalSoFar guest past → AreInStep guest starts past → v < vcpu_count guest
+    → IsLegalSoFar guest past → AreDepositedUpTo guest starts past → v < vcpu_count guest
     → is_reaped whose v ≡ true → resets v past < pushes v past
     → length past < length (reaped guest whose past)
 reap_more guest whose starts past v legal step lt is some =
@@ -78,7 +78,7 @@ reap_more guest whose starts past v legal step lt is some =
 
 -- where no vCPU is kicked and something that was opened before the last Asked isn't reset
 pub reap_more_when_unreset : (guest : Guest) (starts : ℕ → ℕ) (past : List Event) (v : ℕ)
-    → IsLegalSoFar guest past → AreInStep guest starts past → first_kicked guest past ≡ None
+    → IsLegalSoFar guest past → AreDepositedUpTo guest starts past → first_kicked guest past ≡ None
     → first_unreset guest past ≡ Some v → length past < length (reaped guest None past)
 unfolding first_kicked first_unreset
 reap_more_when_unreset guest starts past v legal step out unreset =
@@ -92,7 +92,7 @@ reap_more_when_unreset guest starts past v legal step out unreset =
 
 -- where a vCPU's ring is full that is reaped
 pub reap_more_when_full : (guest : Guest) (whose : Option ℕ) (starts : ℕ → ℕ) (past : List Event) (v : ℕ)
-    → IsValid guest → IsLegalSoFar guest past → AreInStep guest starts past → v < vcpu_count guest
+    → IsValid guest → IsLegalSoFar guest past → AreDepositedUpTo guest starts past → v < vcpu_count guest
     → is_reaped whose v ≡ true → is_full guest v past ≡ true
     → length past < length (reaped guest whose past)
 reap_more_when_full guest whose starts past v valid legal step lt is full =

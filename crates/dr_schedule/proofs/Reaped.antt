@@ -9,7 +9,7 @@ use Rattle.dr_history.specs.declared.event.Event.TheVariants.{Deposited, Reset, 
 use Rattle.dr_history.specs.Entries.{pushes, resets, used}
 use Rattle.dr_history.specs.Legality.{IsLegalSoFar}
 use Rattle.dr_reaps.specs.Deposits.{next_deposited}
-use Rattle.dr_schedule.specs.Reaps.{is_reaped, AreFirstDeposited, AreInStep, IsReap, starts_after, rests_deposited, all_reset_below, reaped}
+use Rattle.dr_schedule.specs.Reaps.{is_reaped, AreFirstDeposited, AreDepositedUpTo, IsReap, starts_after, rests_deposited, all_reset_below, reaped}
 use Rattle.dr_schedule.proofs.Depositing.{deposited_pushes}
 use Rattle.dr_schedule.proofs.Reaping.{by_all_reset, by_flushed, by_reaped}
 use Rattle.dr_schedule.proofs.Resetting.{all_none}
@@ -17,25 +17,25 @@ use Rattle.dr_schedule.proofs.Stepping.{step_same, flush_keeps_step}
 use Rattle.dr_schedule.proofs.Settling.{deposits_step, deposits_pushed}
 
 reset_step : (guest : Guest) (whose : Option ℕ) (starts : ℕ → ℕ) (past : List Event)
-    → IsLegalSoFar guest past → AreInStep guest starts past
-    → AreInStep guest (starts_after whose starts past)
+    → IsLegalSoFar guest past → AreDepositedUpTo guest starts past
+    → AreDepositedUpTo guest (starts_after whose starts past)
     (all_reset_below (vcpu_count guest) (rests_deposited whose (vcpu_count guest) past))
 reset_step guest whose starts past legal step =
-    by_all_reset (AreInStep guest (starts_after whose starts past)) (vcpu_count guest)
+    by_all_reset (AreDepositedUpTo guest (starts_after whose starts past)) (vcpu_count guest)
     (rests_deposited whose (vcpu_count guest) past) (deposits_step guest whose starts past legal step)
     (λ v k xs. step_same guest (starts_after whose starts past) xs (Reset v k ∷ xs) (λ u j. refl))
 
 -- behind a reap all that was pushed is deposited, of each vCPU that is reaped, and of the others what was
 pub reap_keeps_step : (guest : Guest) (whose : Option ℕ) (starts : ℕ → ℕ) (past : List Event)
-    → IsLegalSoFar guest past → AreInStep guest starts past
-    → AreInStep guest (starts_after whose starts past) (reaped guest whose past)
+    → IsLegalSoFar guest past → AreDepositedUpTo guest starts past
+    → AreDepositedUpTo guest (starts_after whose starts past) (reaped guest whose past)
 unfolding reaped
 reap_keeps_step guest whose starts past legal step =
     let last : List Event = all_reset_below (vcpu_count guest)
     (rests_deposited whose (vcpu_count guest) past) in
-    let reset : AreInStep guest (starts_after whose starts past) last =
+    let reset : AreDepositedUpTo guest (starts_after whose starts past) last =
     reset_step guest whose starts past legal step in
-    by_flushed (AreInStep guest (starts_after whose starts past)) guest last reset
+    by_flushed (AreDepositedUpTo guest (starts_after whose starts past)) guest last reset
     (flush_keeps_step guest (starts_after whose starts past) last reset)
 
 reset_pushes : (n v : ℕ) (past : List Event) → pushes v (all_reset_below n past) ≡ pushes v past
@@ -64,7 +64,7 @@ none_used v n past first none le =
 
 -- behind a reap no entry is used of a vCPU that is reaped
 pub reap_uses_none : (guest : Guest) (whose : Option ℕ) (starts : ℕ → ℕ) (past : List Event) (v : ℕ)
-    → IsLegalSoFar guest past → AreInStep guest starts past → v < vcpu_count guest
+    → IsLegalSoFar guest past → AreDepositedUpTo guest starts past → v < vcpu_count guest
     → is_reaped whose v ≡ true → used v (reaped guest whose past) ≡ 0
 unfolding reaped
 reap_uses_none guest whose starts past v legal step lt is =

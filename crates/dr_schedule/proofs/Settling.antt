@@ -8,7 +8,7 @@ use Rattle.dr_history.specs.declared.event.Event.{Event}
 use Rattle.dr_history.specs.Entries.{pushes, used}
 use Rattle.dr_history.specs.Legality.{IsLegalSoFar}
 use Rattle.dr_schedule.specs.Settled.{Range, in_order, deposited_all, flushed, Settles, SettlesPart, DepositsPart, ResetsBelow, ResetsPart}
-use Rattle.dr_schedule.specs.Reaps.{is_reaped, AreFirstDeposited, AreInStep, AreRests, Extends, starts_after, rests_deposited, all_reset, all_reset_below, reaped}
+use Rattle.dr_schedule.specs.Reaps.{is_reaped, AreFirstDeposited, AreDepositedUpTo, AreRests, Extends, starts_after, rests_deposited, all_reset, all_reset_below, reaped}
 use Rattle.dr_schedule.proofs.Depositing.{deposited_pushes, first_deposited, rests_are_ranges, deposited_append}
 use Rattle.dr_schedule.proofs.Extending.{extends_then, deposits_extend, below_extends, flush_extends, while_extends}
 use Rattle.dr_schedule.proofs.Resetting.{AreDepositsPushed, below_is, pushed_below, resets_few}
@@ -25,13 +25,13 @@ after_few false p n le = le
 
 -- no more is deposited than pushed
 few : (guest : Guest) (starts : ℕ → ℕ) (past : List Event) → IsLegalSoFar guest past
-    → AreInStep guest starts past → (v : ℕ) → v < vcpu_count guest → starts v ≤ pushes v past
+    → AreDepositedUpTo guest starts past → (v : ℕ) → v < vcpu_count guest → starts v ≤ pushes v past
 few guest starts past legal step v lt = deposited_few guest past v (starts v) legal (step.each v lt)
 
 -- behind the deposits of a reap each vCPU's number is that after the reap
 pub deposits_step : (guest : Guest) (whose : Option ℕ) (starts : ℕ → ℕ) (past : List Event)
-    → IsLegalSoFar guest past → AreInStep guest starts past
-    → AreInStep guest (starts_after whose starts past) (rests_deposited whose (vcpu_count guest) past)
+    → IsLegalSoFar guest past → AreDepositedUpTo guest starts past
+    → AreDepositedUpTo guest (starts_after whose starts past) (rests_deposited whose (vcpu_count guest) past)
 deposits_step guest whose starts past legal step = record {
   each = λ v lt. first_deposited whose starts (vcpu_count guest) v past lt
       (few guest starts past legal step v lt) (step.each v lt);
@@ -39,7 +39,7 @@ deposits_step guest whose starts past legal step = record {
 
 -- and all that is deposited is pushed
 pub deposits_pushed : (guest : Guest) (whose : Option ℕ) (starts : ℕ → ℕ) (past : List Event)
-    → IsLegalSoFar guest past → AreInStep guest starts past → (v : ℕ) → v < vcpu_count guest
+    → IsLegalSoFar guest past → AreDepositedUpTo guest starts past → (v : ℕ) → v < vcpu_count guest
     → AreDepositsPushed v (rests_deposited whose (vcpu_count guest) past)
 deposits_pushed guest whose starts past legal step v lt =
     let same : pushes v (rests_deposited whose (vcpu_count guest) past) ≡ pushes v past =
@@ -51,7 +51,7 @@ deposits_pushed guest whose starts past legal step v lt =
 
 -- A settling of the rests leaves a reap.
 pub settles_reaps : (guest : Guest) (whose : Option ℕ) (starts : ℕ → ℕ) (rs : List Range)
-    (old new : List Event) (n : ℕ) → IsLegalSoFar guest old → AreInStep guest starts old
+    (old new : List Event) (n : ℕ) → IsLegalSoFar guest old → AreDepositedUpTo guest starts old
     → AreRests guest whose starts rs old → Settles guest rs old new n → new ≡ reaped guest whose old
 unfolding reaped
 settles_reaps guest whose starts rs old new n legal step rests settled =
@@ -103,7 +103,7 @@ cut_resets guest past new pushed part =
 
 -- A settling of the rests that is cut off leaves a part of a reap.
 pub settling_cut : (guest : Guest) (whose : Option ℕ) (starts : ℕ → ℕ) (rs : List Range)
-    (old new : List Event) → IsLegalSoFar guest old → AreInStep guest starts old
+    (old new : List Event) → IsLegalSoFar guest old → AreDepositedUpTo guest starts old
     → AreRests guest whose starts rs old → SettlesPart guest rs old new
     → Extends new (reaped guest whose old)
 unfolding reaped

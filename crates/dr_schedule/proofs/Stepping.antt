@@ -15,35 +15,35 @@ use Rattle.dr_turns.proofs.Executing.{by_executed}
 use Rattle.dr_turns.specs.Buffers.{pushed_behind, all_pushed}
 use Rattle.dr_turns.specs.Due.{advanced}
 use Rattle.dr_turns.specs.Turns.{executed, after_op, after_exit}
-use Rattle.dr_schedule.specs.Reaps.{AreFirstDeposited, AreInStep}
+use Rattle.dr_schedule.specs.Reaps.{AreFirstDeposited, AreDepositedUpTo}
 use Rattle.dr_schedule.specs.Schedule.{exited}
 use Rattle.dr_schedule.proofs.Reaping.{by_test}
 
 -- how far they are deposited is the same where the same are
 pub step_same : (guest : Guest) (starts : ℕ → ℕ) (old new : List Event)
     → ((v k : ℕ) → list_any (deposits_entry v k) new ≡ list_any (deposits_entry v k) old)
-    → AreInStep guest starts old → AreInStep guest starts new
+    → AreDepositedUpTo guest starts old → AreDepositedUpTo guest starts new
 step_same guest starts old new same step =
     record { each = λ v lt. record { is = λ k. same v k ∙ (step.each v lt).is k } }
 
 -- before any event none is deposited
-pub first_step : (guest : Guest) → AreInStep guest (λ v. 0) []
+pub first_step : (guest : Guest) → AreDepositedUpTo guest (λ v. 0) []
 first_step guest = record { each = λ v lt. record { is = λ k. sym (le-ltb k 0 (omega arith)) } }
 
 -- the numbers may be given in another form
-pub step_renamed : (guest : Guest) (starts ends : ℕ → ℕ) (past : List Event) → AreInStep guest starts past
-    → ((v : ℕ) → v < vcpu_count guest → starts v ≡ ends v) → AreInStep guest ends past
+pub step_renamed : (guest : Guest) (starts ends : ℕ → ℕ) (past : List Event) → AreDepositedUpTo guest starts past
+    → ((v : ℕ) → v < vcpu_count guest → starts v ≡ ends v) → AreDepositedUpTo guest ends past
 step_renamed guest starts ends past step same =
     record { each = λ v lt. subst (λ (n : ℕ). AreFirstDeposited v n past) (same v lt) (step.each v lt) }
 
 -- a flush deposits nothing
-pub flush_keeps_step : (guest : Guest) (starts : ℕ → ℕ) (past : List Event) → AreInStep guest starts past
-    → AreInStep guest starts (Flushed ∷ past)
+pub flush_keeps_step : (guest : Guest) (starts : ℕ → ℕ) (past : List Event) → AreDepositedUpTo guest starts past
+    → AreDepositedUpTo guest starts (Flushed ∷ past)
 flush_keeps_step guest starts past step = step_same guest starts past (Flushed ∷ past) (λ v k. refl) step
 
 -- nor does a step of the migrator
 pub advance_keeps_step : (guest : Guest) (starts : ℕ → ℕ) (now : ℕ) (past : List Event)
-    → AreInStep guest starts past → AreInStep guest starts (advanced guest now past).1
+    → AreDepositedUpTo guest starts past → AreDepositedUpTo guest starts (advanced guest now past).1
 advance_keeps_step guest starts now past step =
     step_same guest starts past (advanced guest now past).1 (advanced_is_aside guest now past).deposited
     step
@@ -64,7 +64,7 @@ pushed_deposits v (suc n) u k past = pushed_deposits v n u k past
 
 -- nor does an op
 pub op_keeps_step : (guest : Guest) (starts : ℕ → ℕ) (past : List Event) (v : ℕ)
-    → AreInStep guest starts past → AreInStep guest starts (after_op guest v past)
+    → AreDepositedUpTo guest starts past → AreDepositedUpTo guest starts (after_op guest v past)
 op_keeps_step guest starts past v step =
     let now : (u k : ℕ) → list_any (deposits_entry u k) (executed guest v past) ≡ list_any
     (deposits_entry u k) past =
@@ -74,7 +74,7 @@ op_keeps_step guest starts past v step =
     (λ e is. op_deposits e v u k past is)
     (λ e page is. op_deposits e v u k (Filled v page ∷ past) is)
     (λ e page is. op_deposits e v u k (Opened v (opens v past) page ∷ past) is) in
-    by_test (AreInStep guest starts) _ (all_pushed v (executed guest v past)) (executed guest v past)
+    by_test (AreDepositedUpTo guest starts) _ (all_pushed v (executed guest v past)) (executed guest v past)
     (step_same guest starts past (all_pushed v (executed guest v past))
     (λ u k. pushed_deposits v (unpushed v (executed guest v past)) u k (executed guest v past) ∙ now u k)
     step)
@@ -82,14 +82,14 @@ op_keeps_step guest starts past v step =
 
 -- nor does an exit
 pub exit_keeps_step : (guest : Guest) (starts : ℕ → ℕ) (past : List Event) (v : ℕ)
-    → AreInStep guest starts past → AreInStep guest starts (after_exit guest v past)
+    → AreDepositedUpTo guest starts past → AreDepositedUpTo guest starts (after_exit guest v past)
 exit_keeps_step guest starts past v step =
     step_same guest starts past (after_exit guest v past)
     (λ u k. pushed_deposits v (unpushed v past) u k past) step
 
 -- also where it does nothing
 pub exited_keeps_step : (guest : Guest) (starts : ℕ → ℕ) (past : List Event) (v : ℕ)
-    → AreInStep guest starts past → AreInStep guest starts (exited guest v past)
+    → AreDepositedUpTo guest starts past → AreDepositedUpTo guest starts (exited guest v past)
 exited_keeps_step guest starts past v step =
-    by_test (AreInStep guest starts) (in_guest v past) (after_exit guest v past) past
+    by_test (AreDepositedUpTo guest starts) (in_guest v past) (after_exit guest v past) past
     (exit_keeps_step guest starts past v step) step

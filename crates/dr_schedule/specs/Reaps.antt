@@ -1,5 +1,7 @@
--- What a reap leaves: the pushed entries are deposited, each deposited entry is reset, and the permissions go.
-use Rattle.std.specs.Prelude.{◌≡◌, ◌<◌, ◌-◌, ℕ, zero, suc, Bool, not, true, ◌==◌, nat_lt, if◌then◌else◌, List, [], ◌∷◌, ◌++◌, Option, Some, None}
+-- What a reap leaves: the pushed entries are deposited, each deposited entry is reset,
+-- and the permissions go.
+use Rattle.std.specs.Prelude.{◌≡◌, ◌<◌, ◌-◌, ℕ, zero, suc, Bool, not, true, ◌==◌, nat_lt}
+use Rattle.std.specs.Prelude.{if◌then◌else◌, List, [], ◌∷◌, ◌++◌, Option, Some, None}
 use Rattle.std.specs.List.{list_any}
 use Rattle.dr_types.specs.declared.guest.Guest.{Guest}
 use Rattle.dr_types.specs.Scripts.{vcpu_count}
@@ -50,8 +52,8 @@ abbrev pub all_reset_below : ℕ → List Event → List Event
 all_reset_below zero past = past
 all_reset_below (suc n) past = all_reset n (all_reset_below n past)
 
--- The events after a reap of one vCPU's ring or of all: for each of them one Deposited of what it pushed since, then
--- the Resets of each vCPU's deposited entries, then a flush where a page is closing.
+-- The events after a reap of one vCPU's ring or of all: for each of them one Deposited of what it pushed
+-- since, then the Resets of each vCPU's deposited entries, then a flush where a page is closing.
 unfoldable pub reaped : Guest → Option ℕ → List Event → List Event
 reaped guest whose past =
     flushed guest (all_reset_below (vcpu_count guest) (rests_deposited whose (vcpu_count guest) past))
@@ -73,14 +75,15 @@ pub record AreFirstDeposited (v n : ℕ) (past : List Event) : Type 0 where
   pub is : (k : ℕ) → list_any (deposits_entry v k) past ≡ nat_lt k n
 
 -- of each vCPU of the guest exactly the entries below its number are deposited
-pub record AreInStep (guest : Guest) (starts : ℕ → ℕ) (past : List Event) : Type 0 where
+pub record AreDepositedUpTo (guest : Guest) (starts : ℕ → ℕ) (past : List Event) : Type 0 where
   pub each : (v : ℕ) → v < vcpu_count guest → AreFirstDeposited v (starts v) past
 
 -- what a vCPU pushed from a number on
 abbrev pub rest_from : ℕ → ℕ → List Event → Range
 rest_from v first past = range_of v first (pushes v past - first)
 
--- of each vCPU that is reaped the list has one range, what it pushed from its number on, and of the others none
+-- of each vCPU that is reaped the list has one range, what it pushed from its number on,
+-- and of the others none
 pub record AreRests (guest : Guest) (whose : Option ℕ) (starts : ℕ → ℕ) (rs : List Range)
     (past : List Event) : Type 0 where
   pub each : (v : ℕ) → v < vcpu_count guest

@@ -1,5 +1,6 @@
 -- The schedule: which block of events follows those before it.
-use Rattle.std.specs.Prelude.{◌≡◌, ℕ, Bool, true, false, nat_le, if◌then◌else◌, List, [], ◌∷◌, ◌++◌, Option, Some, None}
+use Rattle.std.specs.Prelude.{◌≡◌, ◌⊎◌, ℕ, Bool, true, false, nat_le, if◌then◌else◌}
+use Rattle.std.specs.Prelude.{List, [], ◌∷◌, ◌++◌, Option, Some, None}
 use Rattle.dr_types.specs.declared.guest.Guest.{Guest}
 use Rattle.dr_types.specs.declared.guest.Op.{Op}
 use Rattle.dr_types.specs.declared.guest.Op.TheVariants as op
@@ -12,9 +13,10 @@ use Rattle.dr_turns.specs.Turns.{after_op, after_exit}
 use Rattle.dr_turns.specs.Due.{advanced}
 use Rattle.dr_turns.specs.declared.answers.Advance.{Advance}
 use Rattle.dr_turns.specs.declared.answers.Advance.TheVariants as advance
-use Rattle.dr_schedule.specs.Reaps.{reaped}
+use Rattle.dr_schedule.specs.Reaps.{Extends, reaped}
 
--- what the block before calls for: nothing; a reap, since a vCPU left with a full ring; an exit, since a vCPU halted
+-- what the block before calls for: nothing; a reap, since a vCPU left with a full ring;
+-- an exit, since a vCPU halted
 pub data Call : Type 0 where
   rest : Call
   reap : ℕ → Call
@@ -70,28 +72,50 @@ block guest now (reap v) past = place rest (reaped guest (reaps_after_full guest
 block guest now (leave v) past = place rest (exited guest v past)
 block guest now rest past = due_block guest past (advanced guest now past)
 
--- The place after the next block, the first of these that applies: the reap after an exit with a full ring; the exit
--- after a halt; what the migrator's next step calls for, at this time. Behind the switch-over, and where the rounds are
--- spent, nothing follows: the place stays.
+-- The place after the next block, the first of these that applies: the reap after an exit with a full ring;
+-- the exit after a halt; what the migrator's next step calls for, at this time. Behind the switch-over, and
+-- where the rounds are spent, nothing follows: the place stays.
 unfoldable pub next_block : Guest → ℕ → Place → Place
 next_block guest now at = block guest now at.call at.past
 
--- the place after a block for each of these times, the last of the list first
-abbrev pub all_blocks : Guest → List ℕ → Place
-all_blocks guest [] = place rest []
-all_blocks guest (now ∷ times) = next_block guest now (all_blocks guest times)
+-- the place after a block for each of these times, the last of the list first, from this place on
+abbrev pub blocks_from : Guest → Place → List ℕ → Place
+blocks_from guest from [] = from
+blocks_from guest from (now ∷ times) = next_block guest now (blocks_from guest from times)
 
 -- the events are blocks, each the first that applies
 pub record IsScheduled (guest : Guest) (past : List Event) : Type 0 where
   pub times : List ℕ
-  pub blocks : (all_blocks guest times).past ≡ past
-
--- the events are blocks of the schedule, and the last calls for nothing
-pub record AtRest (guest : Guest) (past : List Event) : Type 0 where
-  pub times : List ℕ
-  pub blocks : all_blocks guest times ≡ place rest past
+  pub blocks : (blocks_from guest (place rest []) times).past ≡ past
 
 -- the events are the first ones of such a list
 pub record BeginsSchedule (guest : Guest) (past : List Event) : Type 0 where
   pub later : List Event
   pub scheduled : IsScheduled guest (later ++ past)
+
+-- Behind the first of these events come blocks of the schedule, each the first that applies where nothing
+-- was called for; the last of them calls for nothing.
+pub record Follows (guest : Guest) (first past : List Event) : Type 0 where
+  pub times : List ℕ
+  pub blocks : blocks_from guest (place rest first) times ≡ place rest past
+
+-- the next block is a reap, by what the last one calls for and what the migrator's next step answers
+abbrev pub is_reap : Call → Advance → Bool
+is_reap (reap v) answer = true
+is_reap rest (advance.NotReset v k) = true
+is_reap call answer = false
+
+-- the next block is a reap, and some first events of it have come
+pub record IsInReap (guest : Guest) (at : Place) (past : List Event) : Type 0 where
+  pub now : ℕ
+  pub next : is_reap at.call (advanced guest now at.past).0 ≡ true
+  pub begun : Extends at.past past
+  pub within : Extends past (next_block guest now at).past
+
+-- Behind the first of these events come blocks of the schedule, cut at the end of a turn: the last may be
+-- some first events of a reap, each of which is a turn of its own. Each other block is one turn.
+pub record CutAtTurn (guest : Guest) (first past : List Event) : Type 0 where
+  pub times : List ℕ
+  pub at : Place
+  pub blocks : blocks_from guest (place rest first) times ≡ at
+  pub last : (past ≡ at.past) ⊎ IsInReap guest at past

@@ -1,5 +1,6 @@
 -- What a settling leaves: deposits in the order of the vCPUs, then resets, then a flush.
-use Rattle.std.specs.Prelude.{◌≡◌, ℕ, zero, suc, ◌+◌, ◌<◌, ◌==◌, true, false, ◌⊎◌, if◌then◌else◌, List, [], ◌∷◌, ◌++◌, Option, Some, None}
+use Rattle.std.specs.Prelude.{◌≡◌, ℕ, zero, suc, ◌+◌, ◌<◌, ◌==◌, true, false, ◌⊎◌}
+use Rattle.std.specs.Prelude.{if◌then◌else◌, List, [], ◌∷◌, ◌++◌, Option, Some, None}
 use Rattle.std.specs.List.{filter}
 use Rattle.dr_types.specs.declared.guest.Guest.{Guest}
 use Rattle.dr_types.specs.Scripts.{vcpu_count}
@@ -102,8 +103,8 @@ pub record ResetsPart (vcpus : ℕ) (old new : List Event) : Type 0 where
 abbrev pub flushed : Guest → List Event → List Event
 flushed guest past = if some_closing guest past then Flushed ∷ past else past
 
--- These ranges are deposited in rising vCPU order, those of one vCPU in the order of the list; then each vCPU, in
--- rising order, resets until its next entry isn't deposited, so many entries together; then a flush.
+-- These ranges are deposited in rising vCPU order, those of one vCPU in the order of the list; then each
+-- vCPU, in rising order, resets until its next entry isn't deposited, so many entries together; then a flush.
 pub record Settles (guest : Guest) (rs : List Range) (old new : List Event) (n : ℕ) : Type 0 where
   pub mid : List Event
   pub resets : ResetsBelow (vcpu_count guest) (deposited_all (in_order (vcpu_count guest) rs) old) mid n

@@ -10,7 +10,7 @@ ghost use Rattle.dr_history.specs.Vcpus.{is_full};
 ghost use Rattle.dr_turns.specs.Due.{advanced};
 ghost use Rattle.dr_turns.specs.Firsts.{first_kicked, first_unreset};
 ghost use Rattle.dr_turns.specs.Turns.{after_op, after_exit};
-ghost use Rattle.dr_schedule.specs.Reaps.{AreInStep, is_reaped, reaped};
+ghost use Rattle.dr_schedule.specs.Reaps.{AreDepositedUpTo, is_reaped, reaped};
 ghost use Rattle.dr_schedule.specs.Schedule.{appends, exited, reaps_after_full};
 
 /// A turn in which a vCPU executes adds events.
@@ -30,14 +30,14 @@ pub fn exit_adds_events()
 /// reap of all adds events.
 pub fn reap_of_unreset_adds_events()
     ensures { (guest : Guest) (starts : ℕ → ℕ) (past : List Event) (v : ℕ)
-        → IsLegalSoFar guest past → AreInStep guest starts past → first_kicked guest past ≡ None
+        → IsLegalSoFar guest past → AreDepositedUpTo guest starts past → first_kicked guest past ≡ None
         → first_unreset guest past ≡ Some v → length past < length (reaped guest None past) }
 {}
 
 /// A reap of a full ring adds events.
 pub fn reap_of_full_adds_events()
     ensures { (guest : Guest) (whose : Option ℕ) (starts : ℕ → ℕ) (past : List Event) (v : ℕ)
-        → IsValid guest → IsLegalSoFar guest past → AreInStep guest starts past
+        → IsValid guest → IsLegalSoFar guest past → AreDepositedUpTo guest starts past
         → v < vcpu_count guest → is_reaped whose v ≡ true → is_full guest v past ≡ true
         → length past < length (reaped guest whose past) }
 {}
@@ -46,7 +46,7 @@ pub fn reap_of_full_adds_events()
 pub fn reap_after_full_adds_events()
     ensures { (guest : Guest) (starts : ℕ → ℕ) (past : List Event) (v : ℕ) → IsValid guest
         → v < vcpu_count guest → is_full guest v past ≡ true
-        → IsLegalSoFar guest (exited guest v past) → AreInStep guest starts (exited guest v past)
+        → IsLegalSoFar guest (exited guest v past) → AreDepositedUpTo guest starts (exited guest v past)
         → length (exited guest v past)
         < length (reaped guest (reaps_after_full guest v) (exited guest v past)) }
 {}

@@ -17,10 +17,11 @@ pub use reaps::{
     step_deposits_nothing,
 };
 pub use schedule::{
-    block_adds_its_time, exit_alone_is_scheduled, op_alone_is_scheduled, part_begins,
-    part_of_reap_after_full_begins, part_of_reap_begins, rest_is_scheduled, rests_due, rests_first,
-    rests_flush, rests_full, rests_halt, rests_op, rests_out, rests_reap, rests_step,
-    scheduled_begins,
+    any_step_follows, block_adds_its_time, blocks_follow_blocks, cut_begins_schedule,
+    cut_follows_blocks, exit_follows, flush_follows, following_is_scheduled, halt_follows,
+    no_block_follows, op_alone_ends_turn, op_follows, part_of_reap_after_full_ends_turn,
+    part_of_reap_ends_turn, reap_after_full_follows, reap_follows, schedule_is_cut_at_turn,
+    step_follows, whole_blocks_are_cut_at_turn,
 };
 pub use tells::{
     awaited_op_exists, budget_ends_run, finished_has_switched, full_alone_refuses,

@@ -1,5 +1,6 @@
 //! What a settling and a reap leave.
-ghost use Rattle.std.specs.Prelude.{◌≡◌, ◌<◌, ◌-◌, ℕ, true, Some, None, List, [], ◌∷◌, Option, length, slice_get};
+ghost use Rattle.std.specs.Prelude.{◌≡◌, ◌<◌, ◌-◌, ℕ, true, Some, None};
+ghost use Rattle.std.specs.Prelude.{List, [], ◌∷◌, Option, length, slice_get};
 ghost use Rattle.dr_types.specs.declared.guest.Guest.{Guest};
 ghost use Rattle.dr_types.specs.Scripts.{vcpu_count};
 ghost use Rattle.dr_types.specs.Validity.{IsValid};
@@ -9,7 +10,8 @@ ghost use Rattle.dr_history.specs.Legality.{IsLegalSoFar};
 ghost use Rattle.dr_turns.specs.Between.{AtTurnsEnd};
 ghost use Rattle.dr_turns.specs.Due.{advanced};
 ghost use Rattle.dr_turns.specs.Turns.{after_op, after_exit};
-ghost use Rattle.dr_schedule.specs.Reaps.{AreFirstDeposited, AreInStep, AreRests, Extends, is_reaped, rest_from, starts_after, reaped};
+ghost use Rattle.dr_schedule.specs.Reaps.{AreFirstDeposited, AreDepositedUpTo, AreRests, Extends};
+ghost use Rattle.dr_schedule.specs.Reaps.{is_reaped, rest_from, starts_after, reaped};
 ghost use Rattle.dr_schedule.specs.Settled.{Range, Settles, SettlesPart};
 
 /// Where the entries of each vCPU below a number are deposited and no others, a settling of what
@@ -17,7 +19,7 @@ ghost use Rattle.dr_schedule.specs.Settled.{Range, Settles, SettlesPart};
 pub fn settling_leaves_reap()
     ensures { (guest : Guest) (whose : Option ℕ)
         (starts : ℕ → ℕ) (rs : List Range) (old new : List Event) (n : ℕ)
-        → IsLegalSoFar guest old → AreInStep guest starts old
+        → IsLegalSoFar guest old → AreDepositedUpTo guest starts old
         → AreRests guest whose starts rs old → Settles guest rs old new n
         → new ≡ reaped guest whose old }
 {}
@@ -26,7 +28,7 @@ pub fn settling_leaves_reap()
 pub fn cut_settling_leaves_part_of_reap()
     ensures { (guest : Guest) (whose : Option ℕ)
         (starts : ℕ → ℕ) (rs : List Range) (old new : List Event) → IsLegalSoFar guest old
-        → AreInStep guest starts old → AreRests guest whose starts rs old
+        → AreDepositedUpTo guest starts old → AreRests guest whose starts rs old
         → SettlesPart guest rs old new → Extends new (reaped guest whose old) }
 {}
 
@@ -49,14 +51,14 @@ pub fn range_of_one_rests()
 /// what was.
 pub fn reap_deposits_all()
     ensures { (guest : Guest) (whose : Option ℕ) (starts : ℕ → ℕ) (past : List Event)
-        → IsLegalSoFar guest past → AreInStep guest starts past
-        → AreInStep guest (starts_after whose starts past) (reaped guest whose past) }
+        → IsLegalSoFar guest past → AreDepositedUpTo guest starts past
+        → AreDepositedUpTo guest (starts_after whose starts past) (reaped guest whose past) }
 {}
 
 /// After a reap no entry is used of a vCPU that is reaped.
 pub fn reap_resets_all()
     ensures { (guest : Guest) (whose : Option ℕ) (starts : ℕ → ℕ) (past : List Event) (v : ℕ)
-        → IsLegalSoFar guest past → AreInStep guest starts past → v < vcpu_count guest
+        → IsLegalSoFar guest past → AreDepositedUpTo guest starts past → v < vcpu_count guest
         → is_reaped whose v ≡ true → used v (reaped guest whose past) ≡ 0 }
 {}
 
@@ -82,17 +84,17 @@ pub fn rest_fits_ring()
 /// A turn in which a vCPU executes deposits nothing.
 pub fn op_deposits_nothing()
     ensures { (guest : Guest) (starts : ℕ → ℕ) (past : List Event) (v : ℕ)
-        → AreInStep guest starts past → AreInStep guest starts (after_op guest v past) }
+        → AreDepositedUpTo guest starts past → AreDepositedUpTo guest starts (after_op guest v past) }
 {}
 
 /// Nor does an exit.
 pub fn exit_deposits_nothing()
     ensures { (guest : Guest) (starts : ℕ → ℕ) (past : List Event) (v : ℕ)
-        → AreInStep guest starts past → AreInStep guest starts (after_exit guest v past) }
+        → AreDepositedUpTo guest starts past → AreDepositedUpTo guest starts (after_exit guest v past) }
 {}
 
 /// Nor does a step of the migrator.
 pub fn step_deposits_nothing()
     ensures { (guest : Guest) (starts : ℕ → ℕ) (now : ℕ) (past : List Event)
-        → AreInStep guest starts past → AreInStep guest starts (advanced guest now past).1 }
+        → AreDepositedUpTo guest starts past → AreDepositedUpTo guest starts (advanced guest now past).1 }
 {}

@@ -10,119 +10,128 @@ ghost use Rattle.dr_history.specs.Vcpus.{is_full};
 ghost use Rattle.dr_turns.specs.declared.answers.Advance.TheVariants as advance;
 ghost use Rattle.dr_turns.specs.Due.{advanced};
 ghost use Rattle.dr_turns.specs.Turns.{after_op, after_exit};
-ghost use Rattle.dr_schedule.specs.Reaps.{AreInStep, AreRests, Extends, reaped};
-ghost use Rattle.dr_schedule.specs.Schedule.{appends, exited, reaps_after_full, Place, next_block, AtRest, IsScheduled, BeginsSchedule};
-ghost use Rattle.dr_schedule.specs.Settled.{Range, SettlesPart};
+ghost use Rattle.dr_schedule.specs.Reaps.{Extends, reaped};
+ghost use Rattle.dr_schedule.specs.Schedule.{appends, exited, reaps_after_full, Place};
+ghost use Rattle.dr_schedule.specs.Schedule.{next_block, Follows, CutAtTurn, IsScheduled};
+ghost use Rattle.dr_schedule.specs.Schedule.{BeginsSchedule};
 ghost use Rattle.dr_schedule.specs.Timed.{MayAddTime};
 
-/// Before any event nothing is called for.
-pub fn rests_first()
-    ensures { (guest : Guest) → AtRest guest [] }
+/// Where no block came, the events follow themselves.
+pub fn no_block_follows()
+    ensures { (guest : Guest) (past : List Event) → Follows guest past past }
+{}
+
+/// Blocks behind blocks.
+pub fn blocks_follow_blocks()
+    ensures { (guest : Guest) (first mid last : List Event) → Follows guest first mid
+        → Follows guest mid last → Follows guest first last }
 {}
 
 /// A step of the migrator that adds events is a block.
-pub fn rests_due()
-    ensures { (guest : Guest) (now : ℕ) (past : List Event) → AtRest guest past
-        → appends (advanced guest now past).0 ≡ true → AtRest guest (advanced guest now past).1 }
+pub fn step_follows()
+    ensures { (guest : Guest) (now : ℕ) (past : List Event)
+        → appends (advanced guest now past).0 ≡ true → Follows guest past (advanced guest now past).1 }
 {}
 
-/// And any other leaves the events at rest too.
-pub fn rests_step()
-    ensures { (guest : Guest) (now : ℕ) (past : List Event) → AtRest guest past
-        → AtRest guest (advanced guest now past).1 }
+/// And any other calls for none.
+pub fn any_step_follows()
+    ensures { (guest : Guest) (now : ℕ) (past : List Event)
+        → Follows guest past (advanced guest now past).1 }
 {}
 
 /// At NotPaced, with room in the ring: an op that is no halt.
-pub fn rests_op()
-    ensures { (guest : Guest) (now : ℕ) (past : List Event) (v done : ℕ) → AtRest guest past
+pub fn op_follows()
+    ensures { (guest : Guest) (now : ℕ) (past : List Event) (v done : ℕ)
         → (advanced guest now past).0 ≡ advance.NotPaced v done → is_full guest v past ≡ false
-        → is_halt (operation guest v (ops v past)) ≡ false → AtRest guest (after_op guest v past) }
+        → is_halt (operation guest v (ops v past)) ≡ false
+        → Follows guest past (after_op guest v past) }
 {}
 
 /// At NotPaced, with room in the ring: a halt, and then the exit.
-pub fn rests_halt()
-    ensures { (guest : Guest) (now : ℕ) (past : List Event) (v done : ℕ) → AtRest guest past
+pub fn halt_follows()
+    ensures { (guest : Guest) (now : ℕ) (past : List Event) (v done : ℕ)
         → (advanced guest now past).0 ≡ advance.NotPaced v done → is_full guest v past ≡ false
         → is_halt (operation guest v (ops v past)) ≡ true
-        → AtRest guest (after_exit guest v (after_op guest v past)) }
+        → Follows guest past (after_exit guest v (after_op guest v past)) }
 {}
 
 /// At NotPaced, with a full ring: the exit, where the vCPU is in the guest, and then the reap.
-pub fn rests_full()
-    ensures { (guest : Guest) (now : ℕ) (past : List Event) (v done : ℕ) → AtRest guest past
+pub fn reap_after_full_follows()
+    ensures { (guest : Guest) (now : ℕ) (past : List Event) (v done : ℕ)
         → (advanced guest now past).0 ≡ advance.NotPaced v done → is_full guest v past ≡ true
-        → AtRest guest (reaped guest (reaps_after_full guest v) (exited guest v past)) }
+        → Follows guest past (reaped guest (reaps_after_full guest v) (exited guest v past)) }
 {}
 
 /// At NotOut: the exit.
-pub fn rests_out()
-    ensures { (guest : Guest) (now : ℕ) (past : List Event) (v : ℕ) → AtRest guest past
-        → IsLegalSoFar guest past → (advanced guest now past).0 ≡ advance.NotOut v
-        → AtRest guest (after_exit guest v past) }
+pub fn exit_follows()
+    ensures { (guest : Guest) (now : ℕ) (past : List Event) (v : ℕ) → IsLegalSoFar guest past
+        → (advanced guest now past).0 ≡ advance.NotOut v
+        → Follows guest past (after_exit guest v past) }
 {}
 
 /// At NotReset: the reap of all rings.
-pub fn rests_reap()
-    ensures { (guest : Guest) (now : ℕ) (past : List Event) (v k : ℕ) → AtRest guest past
+pub fn reap_follows()
+    ensures { (guest : Guest) (now : ℕ) (past : List Event) (v k : ℕ)
         → (advanced guest now past).0 ≡ advance.NotReset v k
-        → AtRest guest (reaped guest None past) }
+        → Follows guest past (reaped guest None past) }
 {}
 
 /// At NotFlushed: the flush.
-pub fn rests_flush()
-    ensures { (guest : Guest) (now : ℕ) (past : List Event) → AtRest guest past
-        → (advanced guest now past).0 ≡ advance.NotFlushed → AtRest guest (Flushed ∷ past) }
+pub fn flush_follows()
+    ensures { (guest : Guest) (now : ℕ) (past : List Event)
+        → (advanced guest now past).0 ≡ advance.NotFlushed → Follows guest past (Flushed ∷ past) }
 {}
 
-/// Events at rest are scheduled.
-pub fn rest_is_scheduled()
-    ensures { (guest : Guest) (past : List Event) → AtRest guest past → IsScheduled guest past }
+/// From the first event on, blocks that follow are a schedule.
+pub fn following_is_scheduled()
+    ensures { (guest : Guest) (past : List Event) → Follows guest [] past → IsScheduled guest past }
 {}
 
-/// So are those after an op, though it may call for an exit.
-pub fn op_alone_is_scheduled()
-    ensures { (guest : Guest) (now : ℕ) (past : List Event) (v done : ℕ) → AtRest guest past
-        → (advanced guest now past).0 ≡ advance.NotPaced v done → is_full guest v past ≡ false
-        → IsScheduled guest (after_op guest v past) }
+/// Behind whole blocks a turn has ended.
+pub fn whole_blocks_are_cut_at_turn()
+    ensures { (guest : Guest) (first past : List Event) → Follows guest first past
+        → CutAtTurn guest first past }
 {}
 
-/// And those after an exit with a full ring, though it calls for a reap.
-pub fn exit_alone_is_scheduled()
-    ensures { (guest : Guest) (now : ℕ) (past : List Event) (v done : ℕ) → AtRest guest past
-        → (advanced guest now past).0 ≡ advance.NotPaced v done → is_full guest v past ≡ true
-        → IsScheduled guest (exited guest v past) }
-{}
-
-/// Scheduled events begin a schedule.
-pub fn scheduled_begins()
+/// And so it has behind scheduled events, whatever the last block calls for.
+pub fn schedule_is_cut_at_turn()
     ensures { (guest : Guest) (past : List Event) → IsScheduled guest past
+        → CutAtTurn guest [] past }
+{}
+
+/// Blocks that are cut, behind whole ones.
+pub fn cut_follows_blocks()
+    ensures { (guest : Guest) (first mid last : List Event) → Follows guest first mid
+        → CutAtTurn guest mid last → CutAtTurn guest first last }
+{}
+
+/// At NotPaced, with room in the ring: the op alone, though it may call for an exit.
+pub fn op_alone_ends_turn()
+    ensures { (guest : Guest) (now : ℕ) (past : List Event) (v done : ℕ)
+        → (advanced guest now past).0 ≡ advance.NotPaced v done → is_full guest v past ≡ false
+        → CutAtTurn guest past (after_op guest v past) }
+{}
+
+/// At NotPaced, with a full ring: the exit alone, or with some first events of the reap.
+pub fn part_of_reap_after_full_ends_turn()
+    ensures { (guest : Guest) (now : ℕ) (past new : List Event) (v done : ℕ)
+        → (advanced guest now past).0 ≡ advance.NotPaced v done → is_full guest v past ≡ true
+        → Extends (exited guest v past) new
+        → Extends new (reaped guest (reaps_after_full guest v) (exited guest v past))
+        → CutAtTurn guest past new }
+{}
+
+/// At NotReset: some first events of the reap of all rings.
+pub fn part_of_reap_ends_turn()
+    ensures { (guest : Guest) (now : ℕ) (past new : List Event) (v k : ℕ)
+        → (advanced guest now past).0 ≡ advance.NotReset v k → Extends past new
+        → Extends new (reaped guest None past) → CutAtTurn guest past new }
+{}
+
+/// What is cut begins a schedule, from the first event on.
+pub fn cut_begins_schedule()
+    ensures { (guest : Guest) (past : List Event) → CutAtTurn guest [] past
         → BeginsSchedule guest past }
-{}
-
-/// And so does a part of them.
-pub fn part_begins()
-    ensures { (guest : Guest) (part whole : List Event) → IsScheduled guest whole
-        → Extends part whole → BeginsSchedule guest part }
-{}
-
-/// At NotPaced, with a full ring: a part of the reap after the exit begins a schedule.
-pub fn part_of_reap_after_full_begins()
-    ensures { (guest : Guest) (now : ℕ)
-        (starts : ℕ → ℕ) (rs : List Range) (past new : List Event) (v done : ℕ)
-        → AtRest guest past → (advanced guest now past).0 ≡ advance.NotPaced v done
-        → is_full guest v past ≡ true → IsLegalSoFar guest (exited guest v past)
-        → AreInStep guest starts (exited guest v past)
-        → AreRests guest (reaps_after_full guest v) starts rs (exited guest v past)
-        → SettlesPart guest rs (exited guest v past) new → BeginsSchedule guest new }
-{}
-
-/// At NotReset: a part of the reap of all rings begins a schedule.
-pub fn part_of_reap_begins()
-    ensures { (guest : Guest) (now : ℕ)
-        (starts : ℕ → ℕ) (rs : List Range) (past new : List Event) (v k : ℕ) → AtRest guest past
-        → (advanced guest now past).0 ≡ advance.NotReset v k → IsLegalSoFar guest past
-        → AreInStep guest starts past → AreRests guest None starts rs past
-        → SettlesPart guest rs past new → BeginsSchedule guest new }
 {}
 
 /// A block names its own time once at most, and no other.

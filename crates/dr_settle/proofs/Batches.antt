@@ -18,14 +18,14 @@ use Rattle.dr_collector.specs.Collected.{Collected}
 use Rattle.dr_collector.specs.Batched.{IsBatchOf}
 use Rattle.dr_collector.proofs.Seating.{is_there, all_at}
 use Rattle.dr_schedule.specs.Settled.{Range, range_of, of_vcpu}
-use Rattle.dr_schedule.specs.Reaps.{AreFirstDeposited, AreInStep}
+use Rattle.dr_schedule.specs.Reaps.{AreFirstDeposited, AreDepositedUpTo}
 use Rattle.dr_settle.specs.Step as step
 use Rattle.dr_settle.specs.Step.{AreHarvested, IsPart, handed_out, handed_of}
 use Rattle.dr_settle.proofs.Places.{reaches_pushes}
 
 -- by the numbers alone
 pub in_numbers : (guest : Guest) (past : List Event) (collected : List Collected)
-    → step.AreInStep guest past collected → AreInStep guest (handed_of collected) past
+    → step.AreInStep guest past collected → AreDepositedUpTo guest (handed_of collected) past
 in_numbers guest past collected it = record {
   each = λ v lt.
       let at = it.each v lt in
@@ -34,7 +34,7 @@ in_numbers guest past collected it = record {
 
 -- and back, where there is a seat for each vCPU
 pub in_seats : (guest : Guest) (past : List Event) (collected : List Collected)
-    → length collected ≡ vcpu_count guest → AreInStep guest (handed_of collected) past
+    → length collected ≡ vcpu_count guest → AreDepositedUpTo guest (handed_of collected) past
     → step.AreInStep guest past collected
 in_seats guest past collected all it = record {
   each = λ v lt.

@@ -20,10 +20,10 @@ use Rattle.dr_collector.proofs.Seating.{is_there, all_at, get_set, get_other}
 use Rattle.dr_machine.specs.Tied.{AreRingsFor}
 use Rattle.dr_schedule.specs.Settled.{Range, range_of, Settles}
 use Rattle.dr_schedule.specs.Reaps.{AreFirstDeposited, Extends, reaped}
-use Rattle.dr_schedule.proofs.Extending.{reap_extends}
+use Rattle.dr_schedule.proofs.Extending.{extends_still, reap_extends}
 use Rattle.dr_settle.specs.Step.{AreInStep, AreHarvested, AreNotes, IsPart, SettlesCut, handed_out, handed_of}
 use Rattle.dr_settle.proofs.Batches.{part_case, batch_part, all_harvested, in_numbers, in_seats}
-use Rattle.dr_settle.proofs.Harvested.{Reaps, harvest_reaps, harvest_cut}
+use Rattle.dr_settle.proofs.Harvested.{Reaps, harvest_reaps, harvest_cut, part_grows}
 
 -- the size of all rings is the guest's
 pub size_is : (guest : Guest) (rings : List TableId) (v size : ℕ) → AreRingsFor guest rings
@@ -118,6 +118,9 @@ pub none_reaped : (guest : Guest) (whose : Option ℕ) (old new : List Event) �
 none_reaped guest whose old new same = subst (λ (xs : List Event). Extends xs (reaped guest whose old))
     (sym same) (reap_extends guest whose old)
 
+pub none_begun : (old new : List Event) → new ≡ old → Extends old new
+none_begun old new same = subst (Extends old) (sym same) (extends_still old)
+
 -- where all that was harvested is settled
 whole : (guest : Guest) (whose : Option ℕ) (old new : List Collected) (rs : List Range)
     (first mid last : List Event) (n : ℕ) → AreInStep guest first old
@@ -158,3 +161,9 @@ part_reaped guest whose old new rs first mid last step it same =
     → SettlesCut guest rs xs last → Extends last (reaped guest whose first)) (sym same)
     (λ legal after part. harvest_cut guest whose (handed_of old) (handed_of new) rs first last legal after
     (in_numbers guest first old step) it part)
+
+pub part_begun : (guest : Guest) (rs : List Range) (first mid last : List Event) → mid ≡ first
+    → SettlesCut guest rs mid last → Extends first last
+unfolding SettlesCut
+part_begun guest rs first mid last same part = subst (λ (xs : List Event). Extends xs last) same
+    (part_grows guest rs mid last part)

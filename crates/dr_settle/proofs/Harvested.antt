@@ -11,7 +11,7 @@ use Rattle.dr_history.specs.Legality.{IsLegalSoFar}
 use Rattle.dr_law.proofs.Kept.{deposits_facts}
 use Rattle.dr_reaps.specs.Deposits.{first_twice}
 use Rattle.dr_schedule.specs.Settled.{Range, range_of, of_vcpu, in_order, deposited_one, deposited_all, flushed, Settles, SettlesPart, DepositsPart}
-use Rattle.dr_schedule.specs.Reaps.{is_reaped, AreFirstDeposited, AreInStep, AreRests, Extends, first_undeposited, deposited_from, rest_deposited, rests_deposited, all_reset_below, reaped}
+use Rattle.dr_schedule.specs.Reaps.{is_reaped, AreFirstDeposited, AreDepositedUpTo, AreRests, Extends, first_undeposited, deposited_from, rest_deposited, rests_deposited, all_reset_below, reaped}
 use Rattle.dr_schedule.proofs.Rests.{deposited_few, fresh_from, rest_is_range}
 use Rattle.dr_schedule.proofs.Depositing.{deposited_pushes, later_stay, deposited_append}
 use Rattle.dr_schedule.proofs.Extending.{extends_still, extends_more, extends_then, deposits_extend, below_extends, flush_extends}
@@ -92,7 +92,7 @@ exact_more whose behind rs n past old one =
 -- where the deposits are legal
 pub exact_below : (guest : Guest) (whose : Option ℕ) (before behind : ℕ → ℕ) (rs : List Range)
     (past : List Event) (n : ℕ) → n ≤ vcpu_count guest → IsLegalSoFar guest past
-    → AreInStep guest before past → AreHarvested guest whose before behind rs past
+    → AreDepositedUpTo guest before past → AreHarvested guest whose before behind rs past
     → IsLegalSoFar guest (deposited_all (in_order n rs) past) → AreExact whose behind rs n past
 exact_below guest whose before behind rs past zero le first step it legal = record
     { rests = refl; ends = λ v lt is. absurd (omega (arith, lt)) }
@@ -134,12 +134,12 @@ end_case false e s p ends stays = sym (stays refl)
 -- what a settling of it leaves
 pub record Reaps (guest : Guest) (whose : Option ℕ) (behind : ℕ → ℕ) (old new : List Event) : Type 0 where
   pub past : new ≡ reaped guest whose old
-  pub step : AreInStep guest behind new
+  pub step : AreDepositedUpTo guest behind new
 
 -- A settling of what was harvested is a reap, and leaves the collector in step.
 pub harvest_reaps : (guest : Guest) (whose : Option ℕ) (before behind : ℕ → ℕ) (rs : List Range)
     (old new : List Event) (n : ℕ) → IsLegalSoFar guest old → IsLegalSoFar guest new
-    → AreInStep guest before old → AreHarvested guest whose before behind rs old
+    → AreDepositedUpTo guest before old → AreHarvested guest whose before behind rs old
     → Settles guest rs old new n → Reaps guest whose behind old new
 harvest_reaps guest whose before behind rs old new n first last step it settled =
     let mid : IsLegalSoFar guest (deposited_all (in_order (vcpu_count guest) rs) old) = legal_before guest
@@ -188,7 +188,7 @@ deposits_grow whose n (suc m) past le =
 
 -- one that is cut off in its deposits
 cut_deposits : (guest : Guest) (whose : Option ℕ) (before behind : ℕ → ℕ) (rs : List Range)
-    (old new : List Event) → IsLegalSoFar guest old → IsLegalSoFar guest new → AreInStep guest before old
+    (old new : List Event) → IsLegalSoFar guest old → IsLegalSoFar guest new → AreDepositedUpTo guest before old
     → AreHarvested guest whose before behind rs old → DepositsPart (in_order (vcpu_count guest) rs) old new
     → Extends new (reaped guest whose old)
 unfolding reaped
@@ -210,7 +210,7 @@ cut_deposits guest whose before behind rs old new first last step it part =
 
 -- A settling of it that is cut off leaves a part of a reap.
 pub harvest_cut : (guest : Guest) (whose : Option ℕ) (before behind : ℕ → ℕ) (rs : List Range)
-    (old new : List Event) → IsLegalSoFar guest old → IsLegalSoFar guest new → AreInStep guest before old
+    (old new : List Event) → IsLegalSoFar guest old → IsLegalSoFar guest new → AreDepositedUpTo guest before old
     → AreHarvested guest whose before behind rs old → SettlesPart guest rs old new
     → Extends new (reaped guest whose old)
 harvest_cut guest whose before behind rs old new first last step it part =
@@ -224,4 +224,18 @@ harvest_cut guest whose before behind rs old new first last step it part =
       | inl d ↦ cut_deposits guest whose before behind rs old new first last step it d
       | inr (inl r) ↦ whole (resets_part_grows (vcpu_count guest) mid new r)
       | inr (inr f) ↦ whole (flush_waits_grows guest mid new f)
+    ]
+
+-- .. and the events are extended
+pub part_grows : (guest : Guest) (rs : List Range) (old new : List Event) → SettlesPart guest rs old new
+    → Extends old new
+part_grows guest rs old new part =
+    let order : List Range = in_order (vcpu_count guest) rs in
+    let mid : List Event = deposited_all order old in
+    elim part [
+      | inl d ↦ subst (Extends old) (sym d.deposits.past) (deposits_extend d.deposits.done old)
+      | inr (inl r) ↦ extends_then old mid new (deposits_extend order old)
+          (resets_part_grows (vcpu_count guest) mid new r)
+      | inr (inr f) ↦ extends_then old mid new (deposits_extend order old)
+          (flush_waits_grows guest mid new f)
     ]

@@ -11,7 +11,7 @@ use Rattle.dr_collector.specs.Collected.{Collected, begun}
 use Rattle.dr_collector.proofs.Seating.{is_there}
 use Rattle.dr_turns.specs.Due.{advanced}
 use Rattle.dr_turns.specs.Turns.{after_op, after_exit}
-use Rattle.dr_schedule.specs.Reaps.{AreFirstDeposited, AreInStep}
+use Rattle.dr_schedule.specs.Reaps.{AreFirstDeposited, AreDepositedUpTo}
 use Rattle.dr_schedule.proofs.Stepping.{first_step, op_keeps_step, exit_keeps_step, advance_keeps_step, flush_keeps_step}
 use Rattle.dr_settle.specs.Step as step
 use Rattle.dr_settle.specs.Step.{handed_out, handed_of}
@@ -20,7 +20,7 @@ use Rattle.dr_settle.proofs.Batches.{in_numbers}
 -- behind other events, where the numbers are the same
 still_in_step : (guest : Guest) (past new : List Event) (collected : List Collected)
     → step.AreInStep guest past collected
-    → (AreInStep guest (handed_of collected) past → AreInStep guest (handed_of collected) new)
+    → (AreDepositedUpTo guest (handed_of collected) past → AreDepositedUpTo guest (handed_of collected) new)
     → step.AreInStep guest new collected
 still_in_step guest past new collected first on =
     let now = on (in_numbers guest past collected first) in

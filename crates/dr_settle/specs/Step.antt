@@ -1,5 +1,6 @@
 -- How far a collector is beside the deposits, and what is harvested for a reap.
-use Rattle.std.specs.Prelude.{◌≡◌, ◌<◌, ◌≤◌, ◌-◌, ℕ, true, false, if◌then◌else◌, List, [], ◌∷◌, map, length, All, Option, Some, None, slice_get}
+use Rattle.std.specs.Prelude.{◌≡◌, ◌<◌, ◌≤◌, ◌-◌, ℕ, true, false, if◌then◌else◌}
+use Rattle.std.specs.Prelude.{List, [], ◌∷◌, map, length, All, Option, Some, None, slice_get}
 use Rattle.atomic_table.specs.Seated.{TableId}
 use Rattle.dr_types.specs.declared.guest.Guest.{Guest}
 use Rattle.dr_types.specs.Scripts.{vcpu_count}
@@ -24,16 +25,16 @@ handed_out (Some c) = c.handed
 abbrev pub handed_of : List Collected → ℕ → ℕ
 handed_of collected v = handed_out (slice_get collected v)
 
--- What is harvested of one vCPU, where the collector goes from old to new: a range from the number that it handed out
--- to that it has handed out now, which is the number of pushes or more.
+-- What is harvested of one vCPU, where the collector goes from old to new: a range from the number that it
+-- handed out to that it has handed out now, which is the number of pushes or more.
 pub record IsPart (v : ℕ) (past : List Event) (old new : List Collected) (r : Range) : Type 0 where
   pub range : r ≡ range_of v (handed_of old v) (handed_of new v - handed_of old v)
   pub onward : handed_of old v ≤ handed_of new v
   pub whole : pushes v past ≤ handed_of new v
 
--- What is harvested for a reap, where a collector goes from these numbers to those: of each vCPU that is reaped the
--- list has one range, from its number before to that behind, which is the number of pushes or more. Of the others it
--- has none, and their numbers stay.
+-- What is harvested for a reap, where a collector goes from these numbers to those: of each vCPU that is
+-- reaped the list has one range, from its number before to that behind, which is the number of pushes or
+-- more. Of the others it has none, and their numbers stay.
 pub record AreHarvested (guest : Guest) (whose : Option ℕ) (before behind : ℕ → ℕ) (rs : List Range)
     (past : List Event) : Type 0 where
   pub each : (v : ℕ) → v < vcpu_count guest

@@ -1,7 +1,9 @@
-ghost use Rattle.std.specs.Prelude.{◌≡◌, ◌<◌, ◌+◌, ◌==◌, ℕ, [], ◌∷◌, false, map, length, None, IfSome, OnOk, OnErr};
+ghost use Rattle.std.specs.Prelude.{◌≡◌, ◌<◌, ◌+◌, ◌==◌, ℕ, [], ◌∷◌, false};
+ghost use Rattle.std.specs.Prelude.{map, length, None, IfSome, OnOk, OnErr};
 ghost use Rattle.dr_types.specs.Scripts.{vcpu_count};
 ghost use Rattle.dr_bench.specs.Bench.{SameOutlet};
-ghost use Rattle.dr_schedule.specs.Settled.{range_of, of_vcpu, in_order, deposited_one, deposited_all, DepositsPart, IsFresh};
+ghost use Rattle.dr_schedule.specs.Settled.{range_of, of_vcpu, in_order, deposited_one};
+ghost use Rattle.dr_schedule.specs.Settled.{deposited_all, DepositsPart, IsFresh};
 
 use dr_bench::Bench;
 use dr_io::Outlet;

@@ -43,7 +43,7 @@ fn settle_legal<N: Name, O: Outlet>(
 /// Reaps the rings of all vCPUs: takes the machine's notes, harvests with them, and settles what was
 /// harvested. After an `Err` some first events of the reap were appended, each turn whole, and the
 /// collector may be ahead of the deposits.
-#[tactic(auto, using(crate::proofs::Gathered::none_reaped, crate::proofs::Gathered::whole_reaped, crate::proofs::Gathered::whole_in_step, crate::proofs::Gathered::part_reaped))]
+#[tactic(auto, using(crate::proofs::Gathered::none_reaped, crate::proofs::Gathered::whole_reaped, crate::proofs::Gathered::whole_in_step, crate::proofs::Gathered::part_reaped, crate::proofs::Gathered::none_begun, crate::proofs::Gathered::part_begun))]
 pub fn reap_all<N: Name, O: Outlet>(
     bench: &mut Bench<N, O>,
     collector: &mut Collector<N>,
@@ -55,6 +55,7 @@ pub fn reap_all<N: Name, O: Outlet>(
     ensures in_step { OnOk result (AreInStep N.guest bench.new.past collector.new) }
     ensures over { bench.new.over ≡ bench.old.over }
     ensures outlet { SameOutlet bench.old bench.new }
+    ensures begun { OnErr result (Extends bench.old.past bench.new.past) }
     ensures part { OnErr result (Extends bench.new.past (reaped N.guest None bench.old.past)) }
 {
     let batches = harvest_all(bench, collector, rings, alloc)?;
@@ -63,7 +64,7 @@ pub fn reap_all<N: Name, O: Outlet>(
 }
 
 /// Reaps v's ring, as `reap_all` does those of all.
-#[tactic(auto, using(crate::proofs::Gathered::none_reaped, crate::proofs::Gathered::whole_reaped, crate::proofs::Gathered::whole_in_step, crate::proofs::Gathered::part_reaped))]
+#[tactic(auto, using(crate::proofs::Gathered::none_reaped, crate::proofs::Gathered::whole_reaped, crate::proofs::Gathered::whole_in_step, crate::proofs::Gathered::part_reaped, crate::proofs::Gathered::none_begun, crate::proofs::Gathered::part_begun))]
 pub fn reap_one<N: Name, O: Outlet>(
     bench: &mut Bench<N, O>,
     collector: &mut Collector<N>,
@@ -77,6 +78,7 @@ pub fn reap_one<N: Name, O: Outlet>(
     ensures in_step { OnOk result (AreInStep N.guest bench.new.past collector.new) }
     ensures over { bench.new.over ≡ bench.old.over }
     ensures outlet { SameOutlet bench.old bench.new }
+    ensures begun { OnErr result (Extends bench.old.past bench.new.past) }
     ensures part { OnErr result
         (Extends bench.new.past (reaped N.guest (Some v) bench.old.past)) }
 {

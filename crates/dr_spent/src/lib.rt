@@ -31,12 +31,12 @@ pub fn spent_rounds_end_the_run()
 pub fn spent_rounds_run_on()
     ensures begun { (guest : Guest) (past : List Event) → IsValid guest → IsLegalSoFar guest past
         → AreSpent guest past → started past ≡ true }
-    ensures running { (guest : Guest) (past : List Event) → IsValid guest → IsLegalSoFar guest past
+    ensures running { (guest : Guest) (past : List Event) → IsLegalSoFar guest past
         → AreSpent guest past → stopped past ≡ false }
 {}
 
-/// Whatever event the rules let follow, rounds that are spent stay so.
+/// Whatever event follows, rounds that are spent stay so.
 pub fn spent_rounds_stay_spent()
-    ensures { (guest : Guest) (past : List Event) (e : Event) → IsLegalSoFar guest (e ∷ past)
-        → AreSpent guest past → AreSpent guest (e ∷ past) }
+    ensures { (guest : Guest) (past : List Event) (e : Event) → AreSpent guest past
+        → AreSpent guest (e ∷ past) }
 {}

@@ -4,7 +4,8 @@ use Rattle.std.specs.List.{list_any}
 use Rattle.dr_types.specs.declared.guest.Guest.{Guest}
 use Rattle.dr_guestfile.specs.GuestTexts.{guest_of}
 use Rattle.dr_history.specs.declared.event.Event.{Event}
-use Rattle.dr_history.specs.declared.event.Event.TheVariants.{Read, Write, Paint, Local, Halted, Opened, Filled, Pushed, Reset, Exited}
+use Rattle.dr_history.specs.declared.event.Event.TheVariants.{Read, Write, Paint, Local, Halted}
+use Rattle.dr_history.specs.declared.event.Event.TheVariants.{Opened, Filled, Pushed, Reset, Exited}
 use Rattle.dr_history.specs.Kinds.{is_flushed, is_asked, is_synced, is_copied, is_switched}
 use Rattle.dr_history.specs.Legality.{IsLegal}
 use Rattle.dr_history.specs.Lookback.{count}

@@ -2,7 +2,8 @@
 use Rattle.std.specs.Prelude.{ℕ}
 use Rattle.dr_types.specs.declared.fault.FileFault.TheVariants as file
 use Rattle.dr_turn_speed.specs.declared.fault.RunFault.{RunFault}
-use Rattle.dr_turn_speed.specs.declared.fault.RunFault.TheVariants.{Guest, TooLong, Failed, Memory, Spent, Open, Twice}
+use Rattle.dr_turn_speed.specs.declared.fault.RunFault.TheVariants.{Guest, TooLong, Failed}
+use Rattle.dr_turn_speed.specs.declared.fault.RunFault.TheVariants.{Memory, Spent, Open, Twice}
 
 -- the exit code of a fault: 2 where the input is no guest file
 abbrev pub code_of : RunFault → ℕ

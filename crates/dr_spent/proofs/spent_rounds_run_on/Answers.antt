@@ -4,5 +4,5 @@ use Rattle.dr_spent.proofs.spent_rounds_run_on.Goals as goal
 pub returns : goal.returns
 returns c = record {
   begun = spent_begun;
-  running = λ guest past valid legal spent. spent_runs guest past legal spent;
+  running = spent_runs;
 }

@@ -2,4 +2,4 @@ use Rattle.dr_spent.proofs.Ends.{spent_stays}
 use Rattle.dr_spent.proofs.spent_rounds_stay_spent.Goals as goal
 
 pub returns : goal.returns
-returns c = λ guest past e legal spent. spent_stays guest past e spent
+returns c = spent_stays

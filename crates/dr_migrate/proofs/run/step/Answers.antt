@@ -1,5 +1,5 @@
 use Rattle.std.proofs.Common.{◌∙◌, ◌≡◌, sym}
-use Rattle.dr_migrate.proofs.Running.{time_read, last_read, waited_stepped}
+use Rattle.dr_migrate.proofs.Running.{time_read, same_read, waited_stepped}
 use Rattle.dr_migrate.proofs.run.step.Goals as goal
 
 pub returns-in_err-end-clause-times : goal.returns-in_err-end-clause-times
@@ -7,7 +7,7 @@ returns-in_err-end-clause-times g c =
     let reads = g.C.Clock.reads c.args.clock.now in
     let old = c.args.bench.now.past in
     let mid = c.advance.new.bench.past in
-    last_read reads old mid c.wait.new.bench.past (time_read reads c.now_us-now.result old mid c.now_us-now.ensures c.in_ok-step.ensures.times) c.in_err-end.ensures.waited.timeless
+    same_read reads old mid c.wait.new.bench.past (time_read reads c.now_us-now.result old mid c.now_us-now.ensures c.in_ok-step.ensures.times) c.in_err-end.ensures.waited.timeless
 
 pub returns-clause-stepped : goal.returns-clause-stepped
 returns-clause-stepped g c =
@@ -16,3 +16,13 @@ returns-clause-stepped g c =
     let mid = c.advance.new.bench.past in
     let same : mid ≡ old = c.in_ok-step.ensures.advanced.waits (sym c.appends.ensures ∙ c.if-appends.false) in
     waited_stepped guest c.in_ok-end.end old mid c.wait.new.bench.past same c.keeps.ensures.legal.0 c.in_ok-end.ensures.waited
+
+pub returns-in_err-step-clause-times : goal.returns-in_err-step-clause-times
+returns-in_err-step-clause-times g c =
+    time_read (g.C.Clock.reads c.args.clock.now) c.now_us-now.result c.args.bench.now.past
+    c.advance.new.bench.past c.now_us-now.ensures c.in_err-step.ensures.times
+
+pub returns-then-appends-clause-times : goal.returns-then-appends-clause-times
+returns-then-appends-clause-times g c =
+    time_read (g.C.Clock.reads c.args.clock.now) c.now_us-now.result c.args.bench.now.past
+    c.advance.new.bench.past c.now_us-now.ensures c.in_ok-step.ensures.times

@@ -6,7 +6,7 @@ use Rattle.dr_migrate.proofs.steps.reap.Goals as goal
 
 pub returns-in_err-reap_all-clause-breaks : goal.returns-in_err-reap_all-clause-breaks
 returns-in_err-reap_all-clause-breaks g c =
-    let breaks = reap_breaks g.N.Name.guest c.args.now c.args.v c.args.k c.args.bench.now.past c.reap_all.new.bench.past c.requires.answer c.in_err-reap_all.ensures.part in
+    let breaks = reap_breaks g.N.Name.guest c.args.now c.args.v c.args.k c.args.bench.now.past c.reap_all.new.bench.past c.requires.answer c.in_err-reap_all.ensures.begun c.in_err-reap_all.ensures.part in
     search (rules, breaks)
 
 pub returns-clause-moves : goal.returns-clause-moves

@@ -3,7 +3,7 @@ use Rattle.dr_types.specs.declared.status.Status.{Status}
 use Rattle.dr_machine.specs.States.{Left}
 use Rattle.dr_plain.specs.Ended.{left_of, status_of_end}
 use Rattle.dr_plain.specs.Top.{IsRunOf, RunSays}
-use Rattle.dr_plain.proofs.Finishing.{begins_anyhow, run_says}
+use Rattle.dr_plain.proofs.Finishing.{cut_anyhow, run_says}
 use Rattle.dr_plain.proofs.step.finish.Goals as goal
 
 pub returns-clause-says : goal.returns-clause-says
@@ -14,6 +14,6 @@ returns-clause-says g c =
     let put = c.put_behind.ensures in
     let says = run_says guest left g.N.Name.ports told c.put_behind.result c.keep.ensures.valid
     (subst (λ (k : Left). IsRunOf guest k) c.keep.ensures.is c.keep.ensures.run)
-    (begins_anyhow guest c.args.machine.past c.args.end c.requires.ends) put.whole put.done put.cut in
+    (cut_anyhow guest c.args.machine.past c.args.end c.requires.ends) put.whole put.done put.cut in
     subst (λ (s : Status). RunSays s guest (Some c.keep.result) g.N.Name.ports told) (sym c.status_of-status.ensures)
     (subst (λ (k : Left). RunSays (status_of_end c.put_behind.result) guest (Some k) g.N.Name.ports told) (sym c.keep.ensures.is) says)
