@@ -50,3 +50,18 @@ fn sleeps_for_naps_and_throttles(rt: HostRuntime) -> Result<(), Fail> {
     assert!(rt; sleeps(alloc, &file, 2, 203)?, "the sleeps");
     Ok(())
 }
+
+/// The rate of six pages in no time is 24,000,000 KiB a second, so the throttle behind the second
+/// round is 1,081,278 microseconds. The full exit before it sleeps for none, and that behind it for a
+/// second.
+#[test]
+fn sleeps_no_longer_than_a_second(rt: HostRuntime) -> Result<(), Fail> {
+    let alloc = rt.alloc();
+    let head = "dirtyguest 1\nring 65536\nreserve 65530\nbuffer 0\npace 7\nthreshold 0\nrounds 4\n";
+    let first = "w 0 01\nw 4096 01\nw 8192 01\nw 12288 01\nw 16384 01\nw 20480 01\na 0\n";
+    let second = "w 0 02\nw 4096 02\nw 8192 02\nw 12288 02\nw 16384 02\nw 20480 02\nhalt\n";
+    let start = "quota 1\nslot 0 0 6\nvcpu\nrep 7\na 0\nend\n";
+    let file = joined(alloc, &[head, start, first, second])?;
+    assert!(rt; sleeps(alloc, &file, 1, 1_000_000)?, "the sleep");
+    Ok(())
+}
