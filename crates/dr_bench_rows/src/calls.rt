@@ -2,7 +2,7 @@ use dr_bench::{Bench, BenchFault};
 use dr_io::Outlet;
 use dr_ring::Name;
 use dr_rings::Rings;
-use dr_turns::{Advance, Turn};
+use dr_turns::{Advance, RunEnd, Turn};
 use dr_types::Why;
 
 /// A call of a bench, with its vCPU, and what it answers.
@@ -23,6 +23,10 @@ pub enum Call {
     Flush(bool),
     ReapOne(u32),
     ReapAll,
+    /// A drive, where the clock stands at 7.
+    Drive(RunEnd),
+    /// All events have this text.
+    Stands(&'static str),
     /// A put failed, and the run was given up; or neither.
     Failed(bool),
 }

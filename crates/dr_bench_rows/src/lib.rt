@@ -3,6 +3,7 @@
 #![tactic(auto)]
 
 mod calls;
+mod driving;
 mod reaping;
 mod run;
 #[cfg(test)]

@@ -5,6 +5,7 @@ ghost use Rattle.dr_schedule.specs.Reaps.{AreFirstDeposited};
 ghost use Rattle.dr_settle.specs.Step.{AreInStep};
 
 use crate::calls::{Call, answers};
+use crate::driving::{drives, stands};
 use dr_bench::Bench;
 use dr_collector::Collector;
 use dr_io::Outlet;
@@ -55,7 +56,7 @@ fn is_in_step<N: Name, O: Outlet>(bench: &Bench<N, O>, collector: &Collector<N>,
 }
 
 /// Those of each vCPU are.
-fn all_in_step<N: Name, O: Outlet>(
+pub fn all_in_step<N: Name, O: Outlet>(
     bench: &Bench<N, O>,
     collector: &Collector<N>,
     rings: &Rings<N>,
@@ -120,6 +121,8 @@ pub fn answers_beside<N: Name, O: Outlet>(
         Call::Deposit(v, count) => deposits(bench, collector, rings, alloc, v, count),
         Call::ReapOne(v) if v < vcpus => reaps_one(bench, collector, rings, alloc, v),
         Call::ReapAll => reaps_all(bench, collector, rings, alloc),
+        Call::Drive(end) => drives(bench, collector, rings, alloc, end),
+        Call::Stands(text) => stands(bench, alloc, text),
         _ => answers(bench, rings, call),
     }
 }

@@ -2,7 +2,7 @@ use crate::calls::Call;
 use crate::run::{Row, does_so};
 use dr_guestfile::read_guest;
 use dr_machine::rings_for;
-use dr_turns::{Advance, Turn};
+use dr_turns::{Advance, RunEnd, Turn};
 use dr_types::{Listed, Memory, Step, Why};
 use std::alloc::Global;
 use std::marker::Brand;
@@ -168,6 +168,91 @@ fn reaps_take_what_was_pushed(rt: HostRuntime) -> Result<(), Fail> {
         lines: "p 1 0\nd 1 0 1\nz 1 0\nflush\nd 0 0 1\nz 0 0\nflush\n",
         put: 16,
         first: b"DRSTREAM",
+    };
+    assert!(rt; holds(rt.alloc(), TWO_VCPUS, 99, ROW)?);
+    Ok(())
+}
+
+/// A bench of which something has happened is driven to its switch-over, behind what stood before.
+#[test]
+fn a_drive_goes_on_from_where_it_stands(rt: HostRuntime) -> Result<(), Fail> {
+    const BEFORE: &str = "l 0 0
+l 1 0
+start 7
+ask 1
+x 0 kicked
+x 1 kicked
+sync 1 7 2 0 1
+copy 1 0
+copy 1 1
+o 0 0 0
+w 0 1 0 01
+p 0 0
+d 0 0 1
+z 0 0
+flush
+";
+    const WHOLE: &str = "l 0 0
+l 1 0
+start 7
+ask 1
+x 0 kicked
+x 1 kicked
+sync 1 7 2 0 1
+copy 1 0
+copy 1 1
+o 0 0 0
+w 0 1 0 01
+p 0 0
+d 0 0 1
+z 0 0
+flush
+o 1 0 1
+w 1 1 4096 02
+p 1 0
+ask 2
+x 0 kicked
+x 1 kicked
+d 1 0 1
+z 1 0
+flush
+sync 2 7 2 0 1
+copy 2 0
+copy 2 1
+h 0 2
+x 0 halted
+h 1 2
+x 1 halted
+ask 3
+sync 3 7 0
+stop
+ask 4
+sync 4 7 0
+switched
+";
+    const CALLS: &[Call] = &[
+        Call::Op(0, PLAIN),
+        Call::Op(1, PLAIN),
+        Call::Advance(Advance::Started),
+        Call::Advance(Advance::Asked { r: 1 }),
+        Call::Exit(0, Some(Why::Kicked)),
+        Call::Exit(1, Some(Why::Kicked)),
+        Call::Advance(Advance::Answered { r: 1, pages: 2 }),
+        Call::Advance(Advance::Copied { r: 1, page: 0 }),
+        Call::Advance(Advance::Copied { r: 1, page: 1 }),
+        Call::Op(0, PLAIN),
+        Call::ReapAll,
+        Call::Stands(BEFORE),
+        Call::Drive(RunEnd::Switched),
+        Call::Stands(WHOLE),
+        Call::Failed(false),
+    ];
+    const ROW: Row = Row {
+        calls: CALLS,
+        settles: false,
+        lines: "switched\n",
+        put: 16464,
+        first: b"DRSTREAM\x01\x00\x00\x00\x02\x00\x00\x00\x01\x00\x00\x00\x01\x00\x00\x00\x02\x00\x00\x00\x00\x00\x00\x00",
     };
     assert!(rt; holds(rt.alloc(), TWO_VCPUS, 99, ROW)?);
     Ok(())
