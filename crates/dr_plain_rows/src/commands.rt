@@ -1,8 +1,10 @@
 //! A command over a file in memory.
 
+use dr_guestfile::write_guest;
 use dr_io::{ByteSource, FixedClock, Port, PortBook};
+use dr_machine::Kept;
 use dr_plain::{PlainEnd, plain_main};
-use dr_types::{Listed, Status};
+use dr_types::{Listed, Memory, Status};
 use std::alloc::{AllocError, Global};
 
 fn words_of(alloc: Global, words: &[&str]) -> Result<Vec<String>, AllocError> {
@@ -46,6 +48,39 @@ pub fn ends(alloc: Global, words: &[&str], file: &[u8], status: Status) -> bool 
             let some = end.kept.is_some() && !is_empty(&end.out);
             let none = end.kept.is_none() && is_empty(&end.out);
             end.status == Some(status) && (if is_run(status) { some } else { none })
+        }
+        Err(_) => false,
+    }
+}
+
+/// The journal of what is kept: its guest in canonical text, and its events.
+fn journal_of(alloc: Global, kept: &Kept) -> Result<String, Memory> {
+    let guest = write_guest(alloc, kept.guest())?;
+    let events = kept.history().text(alloc)?;
+    let mut journal = String::from_str(alloc, guest.as_str())?;
+    journal.push_str("journal\n")?;
+    journal.push_str(events.as_str())?;
+    journal.push_str("end\n")?;
+    Ok(journal)
+}
+
+/// This is the journal of what is kept.
+fn keeps_journal(alloc: Global, kept: &Option<Kept>, journal: &str) -> bool {
+    match kept {
+        Some(kept) => match journal_of(alloc, kept) {
+            Ok(text) => text.as_str() == journal,
+            Err(_) => false,
+        },
+        None => false,
+    }
+}
+
+/// The run of a guest file ends so; this is the journal that was put, and that of what is kept.
+pub fn keeps(alloc: Global, file: &str, status: Status, journal: &str) -> bool {
+    match command(alloc, &["step"], file.as_bytes()) {
+        Ok(end) => {
+            let put = end.out.bytes(Port::Journal) == journal.as_bytes();
+            end.status == Some(status) && put && keeps_journal(alloc, &end.kept, journal)
         }
         Err(_) => false,
     }
