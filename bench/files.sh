@@ -30,26 +30,12 @@ step() {
 plain() {
     "$folder/plain" "$1" "$pages" "$folder/plain.stream" "$folder/plain.image"
 }
-# The microseconds that a command takes, into new files and with nothing left to write to the disk.
-took() {
-    rm -f "$folder"/*.stream "$folder"/*.image
-    sync
-    local from=$(date +%s%N)
-    "$@"
-    echo $((($(date +%s%N) - from) / 1000))
-}
-# The best of nine runs of each, one after the other in turn.
+. "$here/compare.sh"
 compare() {
-    local best_step= best_plain= now
-    for _ in 1 2 3 4 5 6 7 8 9; do
-        now=$(took step "$1")
-        if [ -z "$best_step" ] || [ "$now" -lt "$best_step" ]; then best_step=$now; fi
-        now=$(took plain "$1")
-        if [ -z "$best_plain" ] || [ "$now" -lt "$best_plain" ]; then best_plain=$now; fi
-    done
-    printf '%s: step %d.%03d ms, plain program %d.%03d ms: %d.%02d times\n' "$1" \
-        $((best_step / 1000)) $((best_step % 1000)) $((best_plain / 1000)) $((best_plain % 1000)) \
-        $((best_step / best_plain)) $((best_step * 100 / best_plain % 100))
+    best_of_nine "$1"
+    printf '%s: ' "$1"
+    print_best
+    echo
     step "$1"
     plain "$1"
     cmp "$folder/step.stream" "$folder/plain.stream"

@@ -132,29 +132,14 @@ same_files() {
         cmp "$folder/step.$port" "$folder/plain.$port" || return 1
     done
 }
-# The microseconds that a command takes, into new files and with nothing left to write to the disk.
-took() {
-    rm -f "$folder"/step.* "$folder"/plain.*
-    sync
-    local from=$(date +%s%N)
-    "$@"
-    echo $((($(date +%s%N) - from) / 1000))
-}
-# The best of nine runs of each, one after the other in turn.
+. "$here/compare.sh"
 measure() {
-    local best_step= best_plain= now
     large_guest > "$folder/guest"
     step guest
     [ "$code" = 0 ] || fail "step ends with $code: $(cat "$folder/error")"
-    for _ in 1 2 3 4 5 6 7 8 9; do
-        now=$(took step guest)
-        if [ -z "$best_step" ] || [ "$now" -lt "$best_step" ]; then best_step=$now; fi
-        now=$(took plain guest)
-        if [ -z "$best_plain" ] || [ "$now" -lt "$best_plain" ]; then best_plain=$now; fi
-    done
-    printf 'step %d.%03d ms, plain program %d.%03d ms: %d.%02d times, ' \
-        $((best_step / 1000)) $((best_step % 1000)) $((best_plain / 1000)) $((best_plain % 1000)) \
-        $((best_step / best_plain)) $((best_step * 100 / best_plain % 100))
+    best_of_nine guest
+    print_best
+    printf ', '
     if [ $((best_step * 2)) -lt $((best_plain * 3)) ]; then echo 'below 1.5'; else echo 'not below 1.5'; fi
     step guest
     plain guest
