@@ -12,11 +12,12 @@ IsLonger old more new = (before : List ℕ) × (old ≡ Some before) × (new ≡
 
 -- what was kept, and behind it what is left, where both are told
 abbrev pub text_of : Option (List ℕ) → Option (List ℕ) → Option (List ℕ)
-text_of (Some kept) (Some left) = Some (kept ++ left)
-text_of kept left = None
+text_of (Some kept) (Some remaining) = Some (kept ++ remaining)
+text_of kept remaining = None
 
 -- bytes that were left are kept: as long as all are, the two together stay the same text
-abbrev pub MovesBytes : Option (List ℕ) → Option (List ℕ) → Option (List ℕ) → Option (List ℕ) → Type 0
-MovesBytes kept left kept_now left_now =
-    (bytes told : List ℕ) → kept_now ≡ Some bytes → left ≡ Some told
-    → text_of kept_now left_now ≡ text_of kept left
+abbrev pub MovesBytes : Option (List ℕ) → Option (List ℕ) → Option (List ℕ) → Option (List ℕ)
+    → Type 0
+MovesBytes kept remaining kept_now left_now =
+    (bytes told : List ℕ) → kept_now ≡ Some bytes → remaining ≡ Some told
+    → text_of kept_now left_now ≡ text_of kept remaining

@@ -9,11 +9,11 @@ mod tests;
 
 use crate::refusal::{Refusal, last_code, print_refusal};
 use crate::source::{InputFile, KeptSource};
-use dr_files::{FilePorts, PathOpener, PortPaths};
+use dr_command::{Paths, read_words};
 use dr_io::{FixedClock, ReadSource};
+use dr_io_files::{FilePorts, PathOpener, PortPaths};
 use dr_plain::{PlainEnd, plain_main};
 use dr_types::Status;
-use dr_words::{Paths, read_words};
 use std::alloc::AllocError;
 use std::process::ExitCode;
 use std::rt::Files;

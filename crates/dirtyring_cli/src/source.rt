@@ -90,17 +90,18 @@ fn longer(kept: Option<Bytes>, more: &[u8]) -> Option<Bytes>
 }
 
 impl<S: Source + Drop> Source for KeptSource<S> {
-    ghost left = { λ k. S.left k.source };
+    ghost remaining = { λ k. S.remaining k.source };
 
     ghost faults = { λ k. S.faults k.source };
 
     /// Reads from its source, and keeps what came.
     fn read(&mut self, buf: &mut [u8]) -> ReadTurn
         requires { 0 < length buf.old }
-        ensures reads { Reads (S.left self.old.source) (S.faults self.old.source) buf.new result
-            (S.left self.new.source) (S.faults self.new.source) }
-        ensures kept { MovesBytes self.old.bytes (S.left self.old.source) self.new.bytes
-            (S.left self.new.source) }
+        ensures reads { Reads (S.remaining self.old.source)
+            (S.faults self.old.source) buf.new result
+            (S.remaining self.new.source) (S.faults self.new.source) }
+        ensures kept { MovesBytes self.old.bytes (S.remaining self.old.source) self.new.bytes
+            (S.remaining self.new.source) }
     {
         let turn = self.source.read(buf);
         if let ReadTurn::Bytes(n) = turn {

@@ -13,11 +13,11 @@ use Rattle.dr_history.specs.Kinds.{is_copied, is_synced}
 use Rattle.dr_history.specs.Legality.{IsLegalSoFar}
 use Rattle.dr_history.specs.Lookback.{below, count, is_number}
 use Rattle.dr_history.specs.Rounds.{asks, unanswered, last_synced}
-use Rattle.dr_law.specs.Copies.{copies, pages_of}
-use Rattle.dr_law.proofs.Copies.{answers_exactly, copy_facts, next_copy}
-use Rattle.dr_law.proofs.Kept.{syncs_facts}
-use Rattle.dr_law.proofs.Switch.{number_some}
-use Rattle.dr_steps.proofs.Going.{asks_fit}
+use Rattle.dr_history_law.specs.Copies.{copies, pages_of}
+use Rattle.dr_history_law.proofs.Copies.{answers_exactly, copy_facts, next_copy}
+use Rattle.dr_history_law.proofs.Kept.{syncs_facts}
+use Rattle.dr_history_law.proofs.Switch.{number_some}
+use Rattle.dr_turns_law.proofs.Going.{asks_fit}
 
 below_length : (n : ℕ) → length (below n) ≡ n
 below_length zero = refl

@@ -10,13 +10,13 @@ use Rattle.dr_history.specs.Lookback.{count}
 use Rattle.dr_history.specs.Kinds.{is_copied}
 use Rattle.dr_history.specs.Stream.{stream_of}
 use Rattle.dr_history.specs.Vcpus.{stopped}
-use Rattle.dr_machine.specs.States.{State}
+use Rattle.dr_machine.specs.Views.{MachineView}
 use Rattle.dr_stream.specs.Sending.{Sending}
 use Rattle.dr_bench.specs.Bench.{BenchKeeps, IsTracked, IsPartOf, IsQuiet, bench_of}
 use Rattle.dr_bench.proofs.Quiet.{quiet_still, quiet_to}
 
 -- a new bench
-pub begins : (guest : Guest) (ports : Ports) (before : ℕ) (m : State) (s : Sending) → m.past ≡ [] → s.told ≡ ports → s.faults ≡ before → s.pages ≡ 0 → BenchKeeps guest ports before (bench_of m s false) × IsTracked m.past s.pages false
+pub begins : (guest : Guest) (ports : Ports) (before : ℕ) (m : MachineView) (s : Sending) → m.past ≡ [] → s.told ≡ ports → s.faults ≡ before → s.pages ≡ 0 → BenchKeeps guest ports before (bench_of m s false) × IsTracked m.past s.pages false
 begins guest ports before m s past told faults pages = (
   record {
     whole = λ f. told ∙ sym (put_none Stream ports) ∙ ap (λ xs. put_at Stream (stream_of guest xs) ports) (sym past);
@@ -32,7 +32,7 @@ part_on : (ports told : Ports) (old new : List ℕ) → new ≡ old → IsPartOf
 part_on ports told old new is part = rw is part
 
 -- a turn that puts nothing, after which the run is over where it was
-pub keeps_over : (guest : Guest) (ports : Ports) (before : ℕ) (m n : State) (s : Sending) (failed : Bool) → BenchKeeps guest ports before (bench_of m s failed) → IsQuiet guest m.past n.past → (m.over ≡ true → n.over ≡ true) → BenchKeeps guest ports before (bench_of n s failed)
+pub keeps_over : (guest : Guest) (ports : Ports) (before : ℕ) (m n : MachineView) (s : Sending) (failed : Bool) → BenchKeeps guest ports before (bench_of m s failed) → IsQuiet guest m.past n.past → (m.over ≡ true → n.over ≡ true) → BenchKeeps guest ports before (bench_of n s failed)
 keeps_over guest ports before m n s failed keeps quiet over = record {
   whole = λ f. keeps.whole f ∙ ap (λ xs. put_at Stream xs ports) (sym quiet.stream);
   part = λ f. part_on ports s.told (stream_of guest m.past) (stream_of guest n.past) quiet.stream (keeps.part f);
@@ -42,7 +42,7 @@ keeps_over guest ports before m n s failed keeps quiet over = record {
 }
 
 -- a turn that puts nothing
-pub keeps_on : (guest : Guest) (ports : Ports) (before : ℕ) (m n : State) (s : Sending) (failed : Bool) → BenchKeeps guest ports before (bench_of m s failed) → IsQuiet guest m.past n.past → n.over ≡ m.over → BenchKeeps guest ports before (bench_of n s failed)
+pub keeps_on : (guest : Guest) (ports : Ports) (before : ℕ) (m n : MachineView) (s : Sending) (failed : Bool) → BenchKeeps guest ports before (bench_of m s failed) → IsQuiet guest m.past n.past → n.over ≡ m.over → BenchKeeps guest ports before (bench_of n s failed)
 keeps_on guest ports before m n s failed keeps quiet same = keeps_over guest ports before m n s failed keeps quiet (λ over. same ∙ over)
 
 -- nor does it count a page or stop the guest
@@ -50,12 +50,12 @@ pub tracks_on : (guest : Guest) (old new : List Event) (pages : ℕ) (stop : Boo
 tracks_on guest old new pages stop tracked quiet = record { copied = tracked.copied ∙ sym quiet.copied; stop = tracked.stop ∙ sym quiet.stop }
 
 -- both at once
-pub keeps_both : (guest : Guest) (ports : Ports) (before : ℕ) (m n : State) (s : Sending) (failed stop : Bool) → BenchKeeps guest ports before (bench_of m s failed) × IsTracked m.past s.pages stop → IsQuiet guest m.past n.past → n.over ≡ m.over → BenchKeeps guest ports before (bench_of n s failed) × IsTracked n.past s.pages stop
+pub keeps_both : (guest : Guest) (ports : Ports) (before : ℕ) (m n : MachineView) (s : Sending) (failed stop : Bool) → BenchKeeps guest ports before (bench_of m s failed) × IsTracked m.past s.pages stop → IsQuiet guest m.past n.past → n.over ≡ m.over → BenchKeeps guest ports before (bench_of n s failed) × IsTracked n.past s.pages stop
 keeps_both guest ports before m n s failed stop kept quiet same =
     (keeps_on guest ports before m n s failed kept.0 quiet same, tracks_on guest m.past n.past s.pages stop kept.1 quiet)
 
 -- where the run is given up
-pub gives_up : (guest : Guest) (ports : Ports) (before : ℕ) (m n : State) (s : Sending) (failed stop : Bool) → BenchKeeps guest ports before (bench_of m s failed) × IsTracked m.past s.pages stop → n.past ≡ m.past → n.over ≡ true → BenchKeeps guest ports before (bench_of n s failed) × IsTracked n.past s.pages stop
+pub gives_up : (guest : Guest) (ports : Ports) (before : ℕ) (m n : MachineView) (s : Sending) (failed stop : Bool) → BenchKeeps guest ports before (bench_of m s failed) × IsTracked m.past s.pages stop → n.past ≡ m.past → n.over ≡ true → BenchKeeps guest ports before (bench_of n s failed) × IsTracked n.past s.pages stop
 gives_up guest ports before m n s failed stop kept same over =
     let quiet : IsQuiet guest m.past n.past = quiet_to guest m.past m.past n.past (quiet_still guest m.past) same in
     (keeps_over guest ports before m n s failed kept.0 quiet (λ was. over), tracks_on guest m.past n.past s.pages stop kept.1 quiet)

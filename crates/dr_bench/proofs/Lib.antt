@@ -1,4 +1,4 @@
 pub mod Quiet
 pub mod Keeping
 pub mod Counting
-pub mod Stepping
+pub mod Advancing

@@ -11,14 +11,14 @@ use Rattle.dr_history.specs.Entries.{opens, pushes, resets}
 use Rattle.dr_history.specs.Rules.{vcpu_of_op}
 use Rattle.dr_history.specs.Stream.{stream_of, record_of}
 use Rattle.dr_history.specs.Vcpus.{in_guest, stopped}
-use Rattle.dr_law.specs.Room.{unpushed}
-use Rattle.dr_machine.specs.States.{State}
-use Rattle.dr_reaps.specs.Deposits.{next_deposited}
+use Rattle.dr_history_law.specs.Room.{unpushed}
+use Rattle.dr_machine.specs.Views.{MachineView}
+use Rattle.dr_turns_law.specs.Deposits.{next_deposited}
 use Rattle.dr_turns.specs.Buffers.{pushed_behind, all_pushed}
 use Rattle.dr_turns.specs.Due.{some_closing}
 use Rattle.dr_turns.specs.Turns.{refusal, executed, after_op, exit_reason, after_exit}
 use Rattle.dr_turns.specs.declared.answers.Turn.{Turn}
-use Rattle.dr_turns.proofs.Executing.{by_executed}
+use Rattle.dr_turns_law.proofs.Executing.{by_executed}
 use Rattle.dr_bench.specs.Bench.{IsSilent, IsQuiet}
 
 adds_none : (guest : Guest) (past : List Event) (e : Event) → IsSilent e → record_of guest past e ≡ []
@@ -97,34 +97,34 @@ quiet_after_exit guest v past =
     quiet_more guest past (all_pushed v past) (Exited v (exit_reason guest v (all_pushed v past))) (quiet_pushed guest v (unpushed v past) past) tt
 
 -- a machine that answers an error is as it was
-pub result_quiet : {T E : Type 0} (guest : Guest) (old new : State) (next : List Event) (result : Result T E) → IsQuiet guest old.past next → OnOk result (new.past ≡ next) → OnErr result (new ≡ old) → IsQuiet guest old.past new.past
+pub result_quiet : {T E : Type 0} (guest : Guest) (old new : MachineView) (next : List Event) (result : Result T E) → IsQuiet guest old.past next → OnOk result (new.past ≡ next) → OnErr result (new ≡ old) → IsQuiet guest old.past new.past
 result_quiet guest old new next (Ok x) quiet ok err = quiet_to guest old.past next new.past quiet ok
-result_quiet guest old new next (Err e) quiet ok err = quiet_to guest old.past old.past new.past (quiet_still guest old.past) (ap (λ (s : State). s.past) err)
+result_quiet guest old new next (Err e) quiet ok err = quiet_to guest old.past old.past new.past (quiet_still guest old.past) (ap (λ (s : MachineView). s.past) err)
 
-test_quiet : {T E : Type 0} (guest : Guest) (old new : State) (next : List Event) (result : Result T E) (test : Bool) → IsQuiet guest old.past next → (test ≡ false → new ≡ old) → (test ≡ true → OnOk result (new.past ≡ next)) → OnErr result (new ≡ old) → IsQuiet guest old.past new.past
+test_quiet : {T E : Type 0} (guest : Guest) (old new : MachineView) (next : List Event) (result : Result T E) (test : Bool) → IsQuiet guest old.past next → (test ≡ false → new ≡ old) → (test ≡ true → OnOk result (new.past ≡ next)) → OnErr result (new ≡ old) → IsQuiet guest old.past new.past
 test_quiet guest old new next result true quiet still ok err = result_quiet guest old new next result quiet (ok refl) err
-test_quiet guest old new next result false quiet still ok err = quiet_to guest old.past old.past new.past (quiet_still guest old.past) (ap (λ (s : State). s.past) (still refl))
+test_quiet guest old new next result false quiet still ok err = quiet_to guest old.past old.past new.past (quiet_still guest old.past) (ap (λ (s : MachineView). s.past) (still refl))
 
-op_case : {T E : Type 0} (guest : Guest) (v : ℕ) (old new : State) (result : Result T E) (why : Option Turn) → IfSome why (λ turn. new ≡ old) → (why ≡ None → OnOk result (new.past ≡ after_op guest v old.past)) → OnErr result (new ≡ old) → IsQuiet guest old.past new.past
-op_case guest v old new result (Some turn) still ok err = quiet_to guest old.past old.past new.past (quiet_still guest old.past) (ap (λ (s : State). s.past) still)
+op_case : {T E : Type 0} (guest : Guest) (v : ℕ) (old new : MachineView) (result : Result T E) (why : Option Turn) → IfSome why (λ turn. new ≡ old) → (why ≡ None → OnOk result (new.past ≡ after_op guest v old.past)) → OnErr result (new ≡ old) → IsQuiet guest old.past new.past
+op_case guest v old new result (Some turn) still ok err = quiet_to guest old.past old.past new.past (quiet_still guest old.past) (ap (λ (s : MachineView). s.past) still)
 op_case guest v old new result None still ok err = result_quiet guest old new (after_op guest v old.past) result (quiet_after_op guest v old.past) (ok refl) err
 
 -- a turn that may execute
-pub op_quiet : {T E : Type 0} (guest : Guest) (v : ℕ) (old new : State) (result : Result T E) → IfSome (refusal guest old.over v old.past) (λ turn. new ≡ old) → (refusal guest old.over v old.past ≡ None → OnOk result (new.past ≡ after_op guest v old.past)) → OnErr result (new ≡ old) → IsQuiet guest old.past new.past
+pub op_quiet : {T E : Type 0} (guest : Guest) (v : ℕ) (old new : MachineView) (result : Result T E) → IfSome (refusal guest old.over v old.past) (λ turn. new ≡ old) → (refusal guest old.over v old.past ≡ None → OnOk result (new.past ≡ after_op guest v old.past)) → OnErr result (new ≡ old) → IsQuiet guest old.past new.past
 op_quiet guest v old new result = op_case guest v old new result (refusal guest old.over v old.past)
 
 -- a turn in which a vCPU may leave
-pub exit_quiet : {T E : Type 0} (guest : Guest) (v : ℕ) (old new : State) (result : Result T E) → (in_guest v old.past ≡ false → new ≡ old) → (in_guest v old.past ≡ true → OnOk result (new.past ≡ after_exit guest v old.past)) → OnErr result (new ≡ old) → IsQuiet guest old.past new.past
+pub exit_quiet : {T E : Type 0} (guest : Guest) (v : ℕ) (old new : MachineView) (result : Result T E) → (in_guest v old.past ≡ false → new ≡ old) → (in_guest v old.past ≡ true → OnOk result (new.past ≡ after_exit guest v old.past)) → OnErr result (new ≡ old) → IsQuiet guest old.past new.past
 exit_quiet guest v old new result = test_quiet guest old new (after_exit guest v old.past) result (in_guest v old.past) (quiet_after_exit guest v old.past)
 
 -- a deposit
-pub deposit_quiet : {T E : Type 0} (guest : Guest) (v from to : ℕ) (old new : State) (result : Result T E) → OnOk result (new.past ≡ Deposited v from to ∷ old.past) → OnErr result (new ≡ old) → IsQuiet guest old.past new.past
+pub deposit_quiet : {T E : Type 0} (guest : Guest) (v from to : ℕ) (old new : MachineView) (result : Result T E) → OnOk result (new.past ≡ Deposited v from to ∷ old.past) → OnErr result (new ≡ old) → IsQuiet guest old.past new.past
 deposit_quiet guest v from to old new result = result_quiet guest old new (Deposited v from to ∷ old.past) result (quiet_silent guest old.past (Deposited v from to) tt)
 
 -- a reset
-pub reset_quiet : {T E : Type 0} (guest : Guest) (v : ℕ) (old new : State) (result : Result T E) → (next_deposited v old.past ≡ false → new ≡ old) → (next_deposited v old.past ≡ true → OnOk result (new.past ≡ Reset v (resets v old.past) ∷ old.past)) → OnErr result (new ≡ old) → IsQuiet guest old.past new.past
+pub reset_quiet : {T E : Type 0} (guest : Guest) (v : ℕ) (old new : MachineView) (result : Result T E) → (next_deposited v old.past ≡ false → new ≡ old) → (next_deposited v old.past ≡ true → OnOk result (new.past ≡ Reset v (resets v old.past) ∷ old.past)) → OnErr result (new ≡ old) → IsQuiet guest old.past new.past
 reset_quiet guest v old new result = test_quiet guest old new (Reset v (resets v old.past) ∷ old.past) result (next_deposited v old.past) (quiet_silent guest old.past (Reset v (resets v old.past)) tt)
 
 -- a flush
-pub flush_quiet : {T E : Type 0} (guest : Guest) (old new : State) (result : Result T E) → (some_closing guest old.past ≡ false → new ≡ old) → (some_closing guest old.past ≡ true → OnOk result (new.past ≡ Flushed ∷ old.past)) → OnErr result (new ≡ old) → IsQuiet guest old.past new.past
+pub flush_quiet : {T E : Type 0} (guest : Guest) (old new : MachineView) (result : Result T E) → (some_closing guest old.past ≡ false → new ≡ old) → (some_closing guest old.past ≡ true → OnOk result (new.past ≡ Flushed ∷ old.past)) → OnErr result (new ≡ old) → IsQuiet guest old.past new.past
 flush_quiet guest old new result = test_quiet guest old new (Flushed ∷ old.past) result (some_closing guest old.past) (quiet_silent guest old.past Flushed tt)

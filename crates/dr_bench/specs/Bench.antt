@@ -4,18 +4,19 @@ use Rattle.dr_types.specs.declared.guest.Guest.{Guest}
 use Rattle.dr_types.specs.declared.port.Port.TheVariants.{Stream}
 use Rattle.dr_types.specs.Ports.{Ports, put_at, Rose}
 use Rattle.dr_history.specs.declared.event.Event.{Event}
-use Rattle.dr_history.specs.declared.event.Event.TheVariants.{Start, Synced, Copied, Stopped, Switched}
+use Rattle.dr_history.specs.declared.event.Event.TheVariants.{Start, Synced, Copied, Stopped}
+use Rattle.dr_history.specs.declared.event.Event.TheVariants.{Switched}
 use Rattle.dr_history.specs.Lookback.{count}
 use Rattle.dr_history.specs.Kinds.{is_copied}
 use Rattle.dr_history.specs.Stream.{stream_of}
 use Rattle.dr_history.specs.Vcpus.{stopped}
 use Rattle.dr_ring.specs.Seats.{KernelView}
-use Rattle.dr_machine.specs.States as machine
+use Rattle.dr_machine.specs.Views as machine
 use Rattle.dr_stream.specs.Sending.{Sending}
 
--- what has happened, the newest event first, the kernel seat of each vCPU, whether the run was given up,
--- whether a put failed, what the outlet tells of the ports, and its count of faults
-pub record BenchState : Type 0 where
+-- what has happened, the newest event first, the kernel seat of each vCPU, whether the run was
+-- given up, whether a put failed, what the outlet tells of the ports, and its count of faults
+pub record BenchView : Type 0 where
   pub past : List Event
   pub seats : List KernelView
   pub over : Bool
@@ -24,7 +25,7 @@ pub record BenchState : Type 0 where
   pub faults : ℕ
 
 -- a bench of this machine and this sender
-abbrev pub bench_of : machine.State → Sending → Bool → BenchState
+abbrev pub bench_of : machine.MachineView → Sending → Bool → BenchView
 bench_of m s failed = record {
   past = m.past;
   seats = m.seats;
@@ -39,10 +40,10 @@ pub record IsPartOf (ports : Ports) (bytes : List ℕ) (told : Ports) : Type 0 w
   pub length : ℕ
   pub told_is : told ≡ put_at Stream (take length bytes) ports
 
--- What a bench keeps that began with these ports and this count. While no put failed, the Stream port has
--- grown by the stream of what happened; after that by a first part of it, the count has risen, and the run
--- was given up. The other ports are what they were.
-pub record BenchKeeps (guest : Guest) (ports : Ports) (before : ℕ) (it : BenchState) : Type 0 where
+-- What a bench keeps that began with these ports and this count. While no put failed, the Stream
+-- port has grown by the stream of what happened; after that by a first part of it, the count has
+-- risen, and the run was given up. The other ports are what they were.
+pub record BenchKeeps (guest : Guest) (ports : Ports) (before : ℕ) (it : BenchView) : Type 0 where
   pub whole : it.failed ≡ false → it.told ≡ put_at Stream (stream_of guest it.past) ports
   pub part : it.failed ≡ true → IsPartOf ports (stream_of guest it.past) it.told
   pub later : before ≤ it.faults
@@ -50,7 +51,7 @@ pub record BenchKeeps (guest : Guest) (ports : Ports) (before : ℕ) (it : Bench
   pub stopped : it.failed ≡ true → it.over ≡ true
 
 -- nothing was put
-pub record SameOutlet (old new : BenchState) : Type 0 where
+pub record SameOutlet (old new : BenchView) : Type 0 where
   pub failed : new.failed ≡ old.failed
   pub told : new.told ≡ old.told
   pub faults : new.faults ≡ old.faults

@@ -1,5 +1,7 @@
-ghost use Rattle.std.specs.Prelude.{◌≡◌, ◌<◌, ◌≤◌, ◌+◌, ◌-◌, ◌^◌, ◌∷◌, ℕ, [], true, false, length, nat_lt};
-ghost use Rattle.std.specs.Prelude.{slice_get, Ok, Err, Some, None, IfOk, IfErr, OnOk, OnErr, IfSome};
+ghost use Rattle.std.specs.Prelude.{◌≡◌, ◌<◌, ◌≤◌, ◌+◌, ◌-◌, ◌^◌, ◌∷◌, ℕ, [], true, false, length};
+ghost use Rattle.std.specs.Prelude.{nat_lt};
+ghost use Rattle.std.specs.Prelude.{slice_get, Ok, Err, Some, None, IfOk, IfErr, OnOk, OnErr};
+ghost use Rattle.std.specs.Prelude.{IfSome};
 ghost use Rattle.std.specs.List.{list_any};
 ghost use Rattle.dr_types.specs.Pages.{page_count};
 ghost use Rattle.dr_types.specs.Ports.{Rose};
@@ -16,31 +18,32 @@ ghost use Rattle.dr_history.specs.Rules.{deposits_entry};
 ghost use Rattle.dr_history.specs.Vcpus.{in_guest};
 ghost use Rattle.dr_log_turns.specs.Throttled.{last_throttle};
 ghost use Rattle.dr_machine.specs.Tied.{AreRingsFor};
-ghost use Rattle.dr_reaps.specs.Deposits.{first_twice, next_deposited, HasGap};
+ghost use Rattle.dr_turns_law.specs.Deposits.{first_twice, next_deposited, HasGap};
 ghost use Rattle.dr_ring.specs.Seats.{kernel_note};
-ghost use Rattle.dr_rings.specs.Seated.{HasAt};
-ghost use Rattle.dr_seats.specs.Seats.{AreSeats};
+ghost use Rattle.dr_ring_set.specs.Seated.{HasAt};
+ghost use Rattle.dr_seat_law.specs.Seats.{AreSeats};
 ghost use Rattle.dr_turns.specs.Between.{AtTurnsEnd};
 ghost use Rattle.dr_turns.specs.Buffers.{all_pushed};
 ghost use Rattle.dr_turns.specs.Due.{advanced, run_end, some_closing};
-ghost use Rattle.dr_turns.specs.Turns.{refusal, op_step, after_op, exit_reason, after_exit, all_out};
+ghost use Rattle.dr_turns.specs.Turns.{refusal, op_step, after_op, exit_reason, after_exit};
+ghost use Rattle.dr_turns.specs.Turns.{all_out};
 ghost use Rattle.dr_bench.specs.Bench.{BenchKeeps, SameOutlet};
-ghost use Rattle.dr_bench.specs.Stepped.{StepFails};
+ghost use Rattle.dr_bench.specs.Records.{AdvanceFails};
 
-use crate::steps::{opens_at, put_step, stopped_after};
-use dr_bytes::PageBytes;
+use crate::records::{opens_at, put_record, stopped_after};
 use dr_history::History;
 use dr_io::{Outlet, PutTurn};
 use dr_machine::{DepositFault, Machine};
+use dr_memory::PageBytes;
 use dr_ring::{Name, Note};
-use dr_rings::{Batch, Rings};
+use dr_ring_set::{Batch, Rings};
 use dr_slots::page_count;
 use dr_stream::Sender;
 use dr_turns::{Advance, RunEnd, Turn};
 use dr_types::{Guest, Memory, Why};
 use std::marker::Model;
 
-/// Why a step of the migrator failed.
+/// Why an advance failed.
 #[derive(Clone, Copy, Debug, PartialEq, Eq)]
 pub enum BenchFault {
     /// A put of the stream failed.
@@ -60,9 +63,10 @@ impl From<Memory> for BenchFault {
     }
 }
 
-/// A machine and the outlet that its stream goes to. Its type keeps that the outlet's Stream port has
-/// grown by the stream of what happened, or by a first part of it after a failed put, and that its
-/// other ports are what they were. Contracts see the machine, the outlet, and whether a put failed.
+/// A machine and the outlet that its stream goes to. Its type keeps that the outlet's Stream port
+/// has grown by the stream of what happened, or by a first part of it after a failed put, and that
+/// its other ports are what they were. Contracts see the machine, the outlet, and whether a put
+/// failed.
 #[derive(Drop)]
 pub struct Bench<N: Name, O: Outlet> {
     machine: Machine<N>,
@@ -73,9 +77,9 @@ pub struct Bench<N: Name, O: Outlet> {
 }
 
 impl<N: Name, O: Outlet> Model for Bench<N, O> {
-    ghost use Rattle.dr_bench.specs.Bench.{BenchState, BenchKeeps, IsTracked, bench_of};
+    ghost use Rattle.dr_bench.specs.Bench.{BenchView, BenchKeeps, IsTracked, bench_of};
 
-    ghost Value = { BenchState };
+    ghost Value = { BenchView };
 
     ghost view = { λ b. bench_of b.machine b.sender b.failed };
 
@@ -117,19 +121,19 @@ impl<N: Name, O: Outlet> Bench<N, O> {
         ensures keeps { BenchKeeps N.guest N.ports N.faults self }
         ensures legal { IsLegal N.guest self.past }
     {
-        self.machine.keeps();
+        self.machine.recall_kept();
         (self.machine, self.sender.into_outlet())
     }
 
     /// What the type of a bench keeps.
-    pub fn keeps(&self)
+    pub fn recall_kept(&self)
         ensures keeps { BenchKeeps N.guest N.ports N.faults self.now }
         ensures legal { IsLegal N.guest self.now.past }
         ensures end { AtTurnsEnd N.guest self.now.past }
         ensures seats { AreSeats N.guest self.now.past self.now.seats }
         ensures rings { AreRingsFor N.guest N.rings }
     {
-        self.machine.keeps();
+        self.machine.recall_kept();
     }
 
     /// A put failed before.
@@ -198,7 +202,8 @@ impl<N: Name, O: Outlet> Bench<N, O> {
             first_twice batch.vcpu batch.first self.old.past to ≡ None
             → IfErr result (λ fault. fault ≡ DepositFault.Memory batch) }
         ensures appended { let to = batch.first + length batch.entries in
-            OnOk result (self.new.past ≡ Event.Deposited batch.vcpu batch.first to ∷ self.old.past) }
+            OnOk result (self.new.past ≡ Event.Deposited batch.vcpu batch.first to
+            ∷ self.old.past) }
         ensures over { self.new.over ≡ self.old.over }
         ensures err { OnErr result (self.new ≡ self.old) }
         ensures outlet { SameOutlet self.old self.new }
@@ -206,8 +211,8 @@ impl<N: Name, O: Outlet> Bench<N, O> {
         self.machine.deposit(rings, batch)
     }
 
-    /// How many of v's entries are deposited, where these are its first; `None` where one isn't and a
-    /// later one is.
+    /// How many of v's entries are deposited, where these are its first; `None` where one isn't and
+    /// a later one is.
     pub fn deposited(&self, v: u32) -> Option<u64>
         requires { v < vcpu_count N.guest }
         ensures some { IfSome result (λ n. (k : ℕ)
@@ -248,8 +253,8 @@ impl<N: Name, O: Outlet> Bench<N, O> {
         self.machine.flush()
     }
 
-    /// Does the step of the migrator that is due, and puts its record in the same turn. Where that
-    /// put fails, what the step appended stands, and the run is given up.
+    /// Makes the advance that is due, and puts its record in the same turn. Where that
+    /// put fails, what the advance appended stands, and the run is given up.
     pub fn advance(&mut self, now: u64) -> Result<Advance, BenchFault>
         requires { self.old.failed ≡ false }
         ensures answer { IfOk result (λ a. a ≡ (advanced N.guest now self.old.past).0) }
@@ -258,15 +263,17 @@ impl<N: Name, O: Outlet> Bench<N, O> {
         ensures failed { OnOk result (self.new.failed ≡ false) }
         ensures seats { self.new.seats ≡ self.old.seats }
         ensures later { self.old.faults ≤ self.new.faults }
-        ensures fault { IfErr result (StepFails N.guest now self.old self.new) }
+        ensures fault { IfErr result (AdvanceFails N.guest now self.old self.new) }
     {
-        self.has_room();
+        self.recall_room();
         let pages = page_count(self.machine.guest());
-        let step = self.machine.advance(now, &mut self.copied)?;
-        let opens = opens_at(self.machine.guest(), self.stopped, step);
-        self.stopped = stopped_after(self.stopped, step);
-        match put_step(&mut self.sender, step, opens, pages, &self.copied) {
-            PutTurn::Done => Ok(step),
+        // Copy, clearing and record are one turn: a write comes before all of it and is sent, or
+        // after all of it and makes the page dirty again.
+        let due = self.machine.advance(now, &mut self.copied)?;
+        let opens = opens_at(self.machine.guest(), self.stopped, due);
+        self.stopped = stopped_after(self.stopped, due);
+        match put_record(&mut self.sender, due, opens, pages, &self.copied) {
+            PutTurn::Done => Ok(due),
             PutTurn::Failed => {
                 self.failed = true;
                 self.machine.give_up();
@@ -277,12 +284,12 @@ impl<N: Name, O: Outlet> Bench<N, O> {
 
     /// One page more may be put, and the guest's pages have room in their count.
     #[tactic(auto, using(crate::proofs::Counting::copied_fits))]
-    fn has_room(&self)
+    fn recall_room(&self)
         ensures few { count is_copied self.now.past < 2 ^ 32 - 1 }
         ensures pages { page_count N.guest < 2 ^ 32 }
     {
-        let _guest = self.machine.guest();
-        self.machine.keeps();
+        let _recall_guest = self.machine.guest();
+        self.machine.recall_kept();
     }
 
     /// How long a vCPU was last throttled, in microseconds: what its last Throttled says, or 0.

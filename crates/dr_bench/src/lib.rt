@@ -2,6 +2,6 @@
 #![tactic(auto)]
 
 mod bench;
-mod steps;
+mod records;
 
 pub use bench::{Bench, BenchFault};

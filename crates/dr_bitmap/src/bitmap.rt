@@ -1,4 +1,5 @@
-ghost use Rattle.std.specs.Prelude.{◌≡◌, ◌+◌, ◌<◌, ◌≤◌, ◌^◌, Bool, true, false, length, set, replicate, slice_index_or, IfOk, IfSome};
+ghost use Rattle.std.specs.Prelude.{◌≡◌, ◌+◌, ◌<◌, ◌≤◌, ◌^◌, Bool, true, false, length, set};
+ghost use Rattle.std.specs.Prelude.{replicate, slice_index_or, IfOk, IfSome};
 ghost use Rattle.dr_bitmap.specs.Members.{members, least_from};
 
 use dr_types::Memory;

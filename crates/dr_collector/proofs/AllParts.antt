@@ -5,8 +5,8 @@ use Rattle.std.proofs.lemmas.Option.{slice_get-map, slice_get_within}
 use Rattle.atomic_table.specs.Seated.{TableId}
 use Rattle.dr_ring.specs.Seats.{NoteView}
 use Rattle.dr_ring.proofs.Places.{slice_get-push}
-use Rattle.dr_rings.specs.Seated.{IfAt, HasAt, MovesAt}
-use Rattle.dr_rings.specs.Batches.{BatchView}
+use Rattle.dr_ring_set.specs.Seated.{IfAt, HasAt, MovesAt}
+use Rattle.dr_ring_set.specs.Batches.{BatchView}
 use Rattle.dr_collector.specs.Collected.{Collected}
 use Rattle.dr_collector.specs.Batched.{IsBatchOf, IsKept, IsCutOff, ring_of_note}
 use Rattle.dr_collector.proofs.Seating.{is_there, get_set, get_other}

@@ -3,7 +3,7 @@ use Rattle.std.proofs.Common.{◌≡◌, ℕ, zero, suc, ◌+◌, List, [], ◌�
 use Rattle.atomic_table.specs.Seated.{TableId}
 use Rattle.dr_ring.specs.Seats.{UserView}
 use Rattle.dr_ring.proofs.Places.{slice_get-push}
-use Rattle.dr_rings.specs.Seated.{ring_of_user}
+use Rattle.dr_ring_set.specs.Seated.{ring_of_user}
 use Rattle.dr_collector.specs.Collected.{begun}
 use Rattle.dr_collector.specs.Pending.{PendingView, all_collected, ArePending}
 use Rattle.dr_collector.proofs.Seating.{all_at}

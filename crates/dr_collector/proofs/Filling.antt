@@ -3,8 +3,8 @@ use Rattle.std.proofs.Common.{◌≡◌, ℕ, Bool, ◌<◌, ◌≤◌, ◌+◌,
 use Rattle.std.proofs.lemmas.List.{append-nil}
 use Rattle.dr_types.specs.declared.entry.Entry.{Entry}
 use Rattle.dr_ring.specs.Seats.{UserView, user_harvested, user_loaded, LoadsNoDirty}
-use Rattle.dr_rings.specs.Seated.{MovesAt, IsHarvest}
-use Rattle.dr_rings.proofs.Batches.{seat_written}
+use Rattle.dr_ring_set.specs.Seated.{MovesAt, IsHarvest}
+use Rattle.dr_ring_set.proofs.Batches.{seat_written}
 use Rattle.dr_collector.specs.Collected.{all_harvested}
 use Rattle.dr_collector.specs.Pending.{PendingView, Fills}
 use Rattle.dr_collector.proofs.Seating.{is_there, set_same, set_again, harvested_next, harvested_grows, ring_stays, known_stays}

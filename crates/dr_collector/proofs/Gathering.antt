@@ -6,9 +6,9 @@ use Rattle.std.proofs.lemmas.Bool.{cases_lt}
 use Rattle.atomic_table.specs.Seated.{TableId}
 use Rattle.dr_types.specs.declared.entry.Entry.{Entry}
 use Rattle.dr_ring.specs.Seats.{NoteView, UserView, IsOfSize, user_note}
-use Rattle.dr_rings.specs.Seated.{MovesAt, ring_of_user}
-use Rattle.dr_rings.specs.Batches.{BatchView, StandFrom}
-use Rattle.dr_rings.proofs.Batches.{seat_written}
+use Rattle.dr_ring_set.specs.Seated.{MovesAt, ring_of_user}
+use Rattle.dr_ring_set.specs.Batches.{BatchView, StandFrom}
+use Rattle.dr_ring_set.proofs.Batches.{seat_written}
 use Rattle.dr_collector.specs.Collected.{Collected, ring_of, learnt, Harvests, Stops}
 use Rattle.dr_collector.specs.Pending.{PendingView, collected, all_collected, IsPending, ArePending, Fills, Gathers, HandsOut}
 use Rattle.dr_collector.proofs.Seating.{is_there, set_same, set_again, set_at, stand_from, all_at, all_from_each, rings_stay, learnt_harvested, learnt_ring}

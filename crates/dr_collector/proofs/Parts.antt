@@ -2,9 +2,9 @@
 use Rattle.std.proofs.Common.{◌≡◌, ◌⊎◌, ℕ, ◌+◌, ◌-◌, ◌≤◌, true, List, length, drop, set, refl, ap, sym, ◌∙◌, subst, arith, inl, inr, length-drop, Option, Some, None, IfSome, slice_get}
 use mathlib.Core.List.{IsPrefix}
 use Rattle.dr_ring.specs.Seats.{NoteView, UserView, user_note}
-use Rattle.dr_rings.specs.Seated.{MovesAt}
-use Rattle.dr_rings.specs.Batches.{BatchView}
-use Rattle.dr_rings.proofs.Batches.{seat_written}
+use Rattle.dr_ring_set.specs.Seated.{MovesAt}
+use Rattle.dr_ring_set.specs.Batches.{BatchView}
+use Rattle.dr_ring_set.proofs.Batches.{seat_written}
 use Rattle.dr_collector.specs.Collected.{Collected, learnt, Harvests, Stops}
 use Rattle.dr_collector.specs.Batched.{IsBatchOf}
 use Rattle.dr_collector.specs.Pending.{Gathers, HandsOut}

@@ -5,8 +5,8 @@ use Rattle.atomic_table.specs.Seated.{TableId}
 use Rattle.dr_types.specs.declared.entry.Entry.{Entry}
 use Rattle.dr_ring.specs.Seats.{KernelView, NoteView, new_kernel}
 use Rattle.dr_ring.proofs.Places.{slice_get-push}
-use Rattle.dr_rings.specs.Seated.{IfAt, MovesAt}
-use Rattle.dr_rings.proofs.NewSeats.{new_kernel_at}
+use Rattle.dr_ring_set.specs.Seated.{IfAt, MovesAt}
+use Rattle.dr_ring_set.proofs.NewSeats.{new_kernel_at}
 use Rattle.dr_collector.specs.Batched.{ring_of_note}
 use Rattle.dr_collector.proofs.Seating.{set_at, all_at, all_from_each}
 

@@ -5,7 +5,7 @@ use Rattle.std.proofs.lemmas.Option.{get_or_from_slice_get, slice_get-get_or, sl
 use Rattle.atomic_table.specs.Seated.{TableId}
 use Rattle.dr_types.specs.declared.entry.Entry.{Entry}
 use Rattle.dr_ring.specs.Seats.{NoteView, UserView, user_harvested}
-use Rattle.dr_rings.specs.Seated.{ring_of_user}
+use Rattle.dr_ring_set.specs.Seated.{ring_of_user}
 use Rattle.dr_collector.specs.Collected.{learnt, all_harvested}
 
 -- an element within a list is there

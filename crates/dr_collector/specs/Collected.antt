@@ -4,7 +4,8 @@ use Rattle.atomic_table.specs.Seated.{TableId}
 use Rattle.dr_types.specs.declared.entry.Entry.{Entry}
 use Rattle.dr_ring.specs.Seats.{NoteView, UserView, user_learnt, user_harvested, LoadsNoDirty}
 
--- what is collected of one vCPU: its user seat, and how many of the seat's entries went out in batches
+-- what is collected of one vCPU: its user seat, and how many of the seat's entries went out in
+-- batches
 pub record Collected : Type 0 where
   pub seat : UserView
   pub handed : ℕ

@@ -1,15 +1,16 @@
-ghost use Rattle.std.specs.Prelude.{◌≡◌, ℕ, ◌≤◌, ◌<◌, ◌+◌, ◌⊎◌, [], map, length, drop, slice_get, All, Some, IfSome, IfOk, OnErr, true, is_ok};
+ghost use Rattle.std.specs.Prelude.{◌≡◌, ℕ, ◌≤◌, ◌<◌, ◌+◌, ◌⊎◌, [], map, length, drop, slice_get};
+ghost use Rattle.std.specs.Prelude.{All, Some, IfSome, IfOk, OnErr, true, is_ok};
 ghost use mathlib.Core.List.{IsPrefix};
 ghost use Rattle.dr_ring.specs.Seats.{user_note};
-ghost use Rattle.dr_rings.specs.Seated.{IfAt, HasAt, MovesAt};
+ghost use Rattle.dr_ring_set.specs.Seated.{IfAt, HasAt, MovesAt};
 ghost use Rattle.dr_collector.specs.Collected.{begun, ring_of, learnt, Harvests, Stops};
 ghost use Rattle.dr_collector.specs.Batched.{IsBatchOf, IsKept, IsCutOff, as_batch, ring_of_note};
 ghost use Rattle.dr_collector.specs.Pending.{Gathers, HandsOut};
 
+use crate::fills::{batch_of, fill, learn_seen};
 use crate::pending::Pending;
-use crate::steps::{batch_of, fill, learn_seen};
 use dr_ring::{Name, Note};
-use dr_rings::{Batch, BatchList, NoteList, Rings, UserSeats};
+use dr_ring_set::{Batch, BatchList, NoteList, Rings, UserSeats};
 use dr_types::{Listed, Memory};
 use std::alloc::Global;
 use std::marker::Model;
@@ -44,7 +45,7 @@ impl<N: Name> Collector<N> {
         for _ in 0..users.vcpus() {
             pendings.push(Pending::new(alloc))?;
         }
-        users.are_named();
+        users.recall_named();
         Ok(Collector { users, pendings })
     }
 
@@ -57,11 +58,11 @@ impl<N: Name> Collector<N> {
     }
 
     /// Each seat is of its vCPU's ring, and of none more entries went out than it harvested.
-    pub fn are_named(&self)
+    pub fn recall_named(&self)
         ensures named { map ring_of self.now ≡ N.rings }
         ensures within { All (λ c. c.handed ≤ length c.seat.harvested) self.now }
     {
-        let _users = &self.users;
+        let _recall_users = &self.users;
     }
 
     /// How many entries of v went out in batches. It is the first number of v's next batch.
@@ -80,7 +81,7 @@ impl<N: Name> Collector<N> {
         ensures { MovesAt self.old self.new v
             (λ c d. Gathers rings.now.size seen (is_ok result) c d) }
     {
-        rings.are_sized();
+        rings.recall_sizes();
         learn_seen(&mut self.users, rings, v, seen);
         fill(&mut self.users, &mut self.pendings[v as usize], rings, v)
     }
@@ -117,6 +118,8 @@ impl<N: Name> Collector<N> {
         ensures err { OnErr result (MovesAt self.old self.new v
             (λ c d. IsKept rings.now.size seen c d)) }
     {
+        // What was gathered stays pending where memory is refused, and goes out with the next
+        // batch.
         self.gather(rings, v, seen)?;
         Ok(self.hand_out(rings, alloc, v))
     }

@@ -2,8 +2,8 @@
 #![tactic(auto)]
 
 mod collector;
+mod fills;
 mod pending;
-mod steps;
 #[cfg(test)]
 mod tests;
 

@@ -1,7 +1,7 @@
 //! What was harvested of one vCPU and went out in no batch.
 ghost use Rattle.std.specs.Prelude.{◌≡◌, ◌≤◌, ◌<◌, ◌↔◌, [], ◌∷◌, ◌++◌, length, IsTrue, OnOk};
 
-use dr_rings::EntryList;
+use dr_ring_set::EntryList;
 use dr_types::{Entry, Listed, Memory};
 use std::alloc::Global;
 use std::marker::Model;

@@ -1,10 +1,10 @@
 ghost use Rattle.std.specs.Prelude.{◌≡◌, ℕ, ◌+◌, ◌≤◌, ◌<◌, map, length, All, IfOk, true};
-ghost use Rattle.dr_rings.specs.Seated.{IfAt};
+ghost use Rattle.dr_ring_set.specs.Seated.{IfAt};
 ghost use Rattle.dr_collector.specs.Batched.{ring_of_note};
 
 use crate::Collector;
 use dr_ring::Name;
-use dr_rings::{Batch, KernelSeats, NoteList, RingParts, RingSet, Rings};
+use dr_ring_set::{Batch, KernelSeats, NoteList, RingParts, RingSet, Rings};
 use dr_types::{Entry, Listed, Memory};
 use std::alloc::Global;
 use std::marker::Brand;

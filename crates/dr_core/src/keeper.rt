@@ -19,6 +19,7 @@ pub enum CoreFault {
     /// It breaks this rule, and none before it.
     #[error("rule {rule} is broken")]
     Illegal { rule: u32 },
+    /// An allocation was refused.
     #[error("out of memory")]
     Memory,
 }
@@ -41,9 +42,9 @@ pub struct Core {
 }
 
 impl Model for Core {
-    ghost use Rattle.dr_log.specs.State.{State};
+    ghost use Rattle.dr_log.specs.Views.{LogView};
 
-    ghost Value = { State };
+    ghost Value = { LogView };
 
     ghost view = { λ c. c.log };
 }

@@ -148,10 +148,10 @@ counting_script script e = of_literal 1 script counting e (record {
 pub counting_short : (script : List Item) → script ≡ counting → length (expanded script) ≤ 200000
 counting_short script e = short_literal script counting e (omega arith)
 
-pub ruleset idle_steps = (idle_script, idle_short)
+pub ruleset idle_ops = (idle_script, idle_short)
 
-pub ruleset writing_steps = (writing_script, writing_short)
+pub ruleset writing_ops = (writing_script, writing_short)
 
-pub ruleset two_page_steps = (two_page_script, two_page_short)
+pub ruleset two_page_ops = (two_page_script, two_page_short)
 
-pub ruleset counting_steps = (counting_script, counting_short)
+pub ruleset counting_ops = (counting_script, counting_short)

@@ -48,7 +48,7 @@ fn small_guest(
 }
 
 /// A guest that halts at once.
-#[tactic(auto, using(crate::proofs::Small::idle_steps))]
+#[tactic(auto, using(crate::proofs::Small::idle_ops))]
 pub fn idle_guest(alloc: Global) -> Result<Guest, Memory>
     ensures { IfOk result IsValid }
 {
@@ -62,7 +62,7 @@ fn idle_script(alloc: Global) -> Result<Vec<Item>, Memory>
 }
 
 /// A guest that writes its only page twice.
-#[tactic(auto, using(crate::proofs::Small::writing_steps))]
+#[tactic(auto, using(crate::proofs::Small::writing_ops))]
 pub fn writing_guest(alloc: Global) -> Result<Guest, Memory>
     ensures { IfOk result IsValid }
 {
@@ -89,7 +89,7 @@ fn writing_script(alloc: Global) -> Result<Vec<Item>, Memory>
 }
 
 /// A guest that writes each of two pages once, under a quota.
-#[tactic(auto, using(crate::proofs::Small::two_page_steps))]
+#[tactic(auto, using(crate::proofs::Small::two_page_ops))]
 pub fn two_page_guest(alloc: Global) -> Result<Guest, Memory>
     ensures { IfOk result IsValid }
 {
@@ -116,7 +116,7 @@ fn two_page_script(alloc: Global) -> Result<Vec<Item>, Memory>
 }
 
 /// A guest that loads a number, adds one to it and stores it, twice.
-#[tactic(auto, using(crate::proofs::Small::counting_steps))]
+#[tactic(auto, using(crate::proofs::Small::counting_ops))]
 pub fn counting_guest(alloc: Global) -> Result<Guest, Memory>
     ensures { IfOk result IsValid }
 {

@@ -2,12 +2,12 @@
 #![tactic(auto)]
 
 #[cfg(test)]
+mod event_row;
+#[cfg(test)]
 mod guests;
 #[cfg(test)]
 mod histories;
 #[cfg(test)]
 mod judge;
-#[cfg(test)]
-mod step;
 #[cfg(test)]
 mod tests;

@@ -1,10 +1,10 @@
+use crate::event_row::EventRow;
 use crate::guests::{counting_guest, idle_guest, two_page_guest, writing_guest};
 use crate::histories::{
     CACHED, COPIED_STALE, COUNTED, FIRST_READ, FIRST_THROTTLED, LAST_THROTTLED, OWED_WRITE,
     SECOND_THROTTLED, SENT_AGAIN, SMALLEST, back, flush,
 };
 use crate::judge::{Verdict, judged};
-use crate::step::Step;
 use dr_history::{Event, History};
 use dr_types::Memory;
 use std::alloc::Global;
@@ -51,7 +51,7 @@ fn owed_write(alloc: Global) -> Result<Verdict, Memory> {
 /// Each of two pages is written once under a quota, and the third throttle is this long.
 fn throttled(alloc: Global, third: u64) -> Result<Verdict, Memory> {
     let guest = two_page_guest(alloc)?;
-    let throttle = [Step::Throttled { us: third }];
+    let throttle = [EventRow::Throttled { us: third }];
     judged(
         alloc,
         &guest,
@@ -62,7 +62,7 @@ fn throttled(alloc: Global, third: u64) -> Result<Verdict, Memory> {
 /// A page is filled, written and read twice, and the second read gives this.
 fn reads(alloc: Global, second: u64) -> Result<Verdict, Memory> {
     let guest = counting_guest(alloc)?;
-    let read = [Step::Read {
+    let read = [EventRow::Read {
         i: 5,
         addr: 8,
         value: second,

@@ -6,7 +6,7 @@ use Rattle.dr_types.specs.declared.guest.Item.{Item}
 use Rattle.dr_types.specs.declared.guest.Guest.{Guest}
 use Rattle.dr_types.specs.Validity.{IsValid}
 use Rattle.dr_guestfile.specs.GuestTexts.{magic_in, guest_in, guest_of}
-use Rattle.dr_guestlines.specs.Input.{Input, input_of}
+use Rattle.dr_guestfile_lines.specs.Input.{Input, input_of}
 use Rattle.dr_guestfile.specs.ScriptLines.{no_sections, scripts_in}
 use Rattle.dr_guestfile.specs.SettingLines.{settings_in}
 use Rattle.dr_guestfile.specs.SlotLines.{slots_in}

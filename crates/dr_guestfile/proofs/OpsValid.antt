@@ -11,12 +11,12 @@ use Rattle.dr_types.specs.Pages.{page_of_frame}
 use Rattle.dr_types.specs.Validity.{Lies, IsOp}
 use Rattle.dr_guestfile.specs.declared.keyword.Keyword.{Keyword}
 use Rattle.dr_guestfile.specs.declared.keyword.Keyword.TheVariants as keyword
-use Rattle.dr_guestlines.specs.Numbers.{hex_number, hex_byte_of}
+use Rattle.dr_guestfile_lines.specs.Numbers.{hex_number, hex_byte_of}
 use Rattle.dr_guestfile.specs.OpLines.{greatest, placed, write_of, fill_of, read_of, add_of, store_of, nap_of, halt_of, op_of, going_on, op_of_body}
-use Rattle.dr_guestlines.specs.Reading.{check, number_of}
-use Rattle.dr_guestlines.specs.Words.{one_word, two_words}
+use Rattle.dr_guestfile_lines.specs.Reading.{check, number_of}
+use Rattle.dr_guestfile_lines.specs.Words.{one_word, two_words}
 use Rattle.dr_guestfile.proofs.SectionState.{IsOpOrHalt}
-use Rattle.dr_guestlines.proofs.Numerals.{hex_number-byte, hex_number-fits}
+use Rattle.dr_guestfile_lines.proofs.Numerals.{hex_number-byte, hex_number-fits}
 use Rattle.dr_guestfile.proofs.SectionParts.{or_halt}
 use Rattle.dr_guestfile.proofs.ReadingParts.{steps, passed, given, number_range}
 

@@ -4,8 +4,8 @@ use Rattle.std.specs.Prelude.{nat_le, if◌then◌else◌}
 use Rattle.std.specs.Option.{ok_or}
 use Rattle.std.proofs.lemmas.Bool.{leb-true}
 use Rattle.dr_types.specs.declared.fault.FileFault.{FileFault}
-use Rattle.dr_guestlines.specs.Numbers.{decimal_number, within}
-use Rattle.dr_guestlines.specs.Reading.{◌>>=◌, check, number_of}
+use Rattle.dr_guestfile_lines.specs.Numbers.{decimal_number, within}
+use Rattle.dr_guestfile_lines.specs.Reading.{◌>>=◌, check, number_of}
 
 -- the first step gave something, and the next gave the rest of it
 pub record Steps {A B : Type 0} (m : Result A FileFault) (f : A → Result B FileFault) (y : B) : Type 0 where

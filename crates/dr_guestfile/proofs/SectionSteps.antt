@@ -4,10 +4,10 @@ use Rattle.dr_types.specs.declared.fault.FileFault.{FileFault}
 use Rattle.dr_types.specs.declared.fault.FileFault.TheVariants as fault
 use Rattle.dr_types.specs.declared.guest.Item.{Item}
 use Rattle.dr_types.specs.declared.guest.SlotRow.{SlotRow}
-use Rattle.dr_guestlines.specs.declared.lines.Line.{Line}
+use Rattle.dr_guestfile_lines.specs.declared.lines.Line.{Line}
 use Rattle.dr_guestfile.specs.declared.scripts.Sections.{Sections}
-use Rattle.dr_guestlines.specs.Input.{Input}
-use Rattle.dr_guestlines.specs.Reading.{◌>>=◌, Answers, next_of, line_in}
+use Rattle.dr_guestfile_lines.specs.Input.{Input}
+use Rattle.dr_guestfile_lines.specs.Reading.{◌>>=◌, Answers, next_of, line_in}
 use Rattle.dr_guestfile.specs.ScriptLines.{section_line, finished, sections_from}
 
 abbrev Scripts : Type 0

@@ -13,7 +13,7 @@ use Rattle.dr_types.specs.Scripts.{op_count}
 use Rattle.dr_types.specs.Validity.{AreScripts}
 use Rattle.dr_guestfile.specs.declared.keyword.Keyword.{Keyword}
 use Rattle.dr_guestfile.specs.declared.keyword.Keyword.TheVariants as keyword
-use Rattle.dr_guestlines.specs.declared.lines.Line.{Line}
+use Rattle.dr_guestfile_lines.specs.declared.lines.Line.{Line}
 use Rattle.dr_guestfile.specs.declared.scripts.Done.{Done}
 use Rattle.dr_guestfile.specs.declared.scripts.Repeat.{Repeat}
 use Rattle.dr_guestfile.specs.declared.scripts.Place.{Place}
@@ -21,10 +21,10 @@ use Rattle.dr_guestfile.specs.declared.scripts.Place.TheVariants as place
 use Rattle.dr_guestfile.specs.declared.scripts.Sections.{Sections}
 use Rattle.dr_guestfile.specs.Keywords.{first_keyword}
 use Rattle.dr_guestfile.specs.OpLines.{op_of, op_of_body}
-use Rattle.dr_guestlines.specs.Reading.{◌>>=◌, check, number_of}
+use Rattle.dr_guestfile_lines.specs.Reading.{◌>>=◌, check, number_of}
 use Rattle.dr_guestfile.specs.ScriptLines.{is_empty, counted, after_op, line_between, line_of_script, line_of_repeat, end_of_repeat, line_at_place, section_line, finished, sections_from, no_sections}
 use Rattle.dr_guestfile.proofs.SectionState.{AreSections}
-use Rattle.dr_guestlines.specs.Words.{one_word, words_after}
+use Rattle.dr_guestfile_lines.specs.Words.{one_word, words_after}
 use Rattle.dr_guestfile.proofs.OpsValid.{op_valid, body_op_valid}
 use Rattle.dr_guestfile.proofs.ReadingParts.{steps, passed, number_range}
 use Rattle.dr_guestfile.proofs.SectionParts.{after_op_valid, end_valid, body_valid}

@@ -9,11 +9,11 @@ use Rattle.dr_types.specs.declared.fault.FileFault.{FileFault}
 use Rattle.dr_types.specs.declared.fault.FileFault.TheVariants as fault
 use Rattle.dr_types.specs.declared.guest.Settings.{Settings}
 use Rattle.dr_types.specs.Validity.{AreSettings}
-use Rattle.dr_guestlines.specs.declared.lines.Line.{Line}
+use Rattle.dr_guestfile_lines.specs.declared.lines.Line.{Line}
 use Rattle.dr_guestfile.specs.declared.settings.Setting.{Setting}
-use Rattle.dr_guestlines.specs.Input.{Input}
-use Rattle.dr_guestlines.specs.Reading.{check, line_in, number_of}
-use Rattle.dr_guestlines.specs.Words.{two_words}
+use Rattle.dr_guestfile_lines.specs.Input.{Input}
+use Rattle.dr_guestfile_lines.specs.Reading.{check, line_in, number_of}
+use Rattle.dr_guestfile_lines.specs.Words.{two_words}
 use Rattle.dr_guestfile.specs.SettingLines.{setting_of, setting_in, settings_in, is_ring_size}
 use Rattle.dr_guestfile.proofs.ReadingParts.{steps, passed, both, number_range}
 

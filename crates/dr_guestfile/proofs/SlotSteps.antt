@@ -4,9 +4,9 @@ use Rattle.std.specs.Prelude.{codes}
 use Rattle.dr_types.specs.declared.fault.FileFault.{FileFault}
 use Rattle.dr_types.specs.declared.fault.FileFault.TheVariants as fault
 use Rattle.dr_types.specs.declared.guest.SlotRow.{SlotRow}
-use Rattle.dr_guestlines.specs.declared.lines.Line.{Line}
-use Rattle.dr_guestlines.specs.Input.{Input}
-use Rattle.dr_guestlines.specs.Reading.{next_begins, next_number}
+use Rattle.dr_guestfile_lines.specs.declared.lines.Line.{Line}
+use Rattle.dr_guestfile_lines.specs.Input.{Input}
+use Rattle.dr_guestfile_lines.specs.Reading.{next_begins, next_number}
 use Rattle.dr_guestfile.specs.SlotLines.{slot_of, admitted, some_slots, slots_from}
 
 abbrev Answer : Type 0

@@ -10,11 +10,11 @@ use Rattle.dr_types.specs.declared.fault.What.TheVariants as what
 use Rattle.dr_types.specs.declared.guest.SlotRow.{SlotRow}
 use Rattle.dr_types.specs.Pages.{pages_of_slots}
 use Rattle.dr_types.specs.Validity.{meet, AreSlots}
-use Rattle.dr_guestlines.specs.declared.lines.Line.{Line}
-use Rattle.dr_guestlines.specs.Input.{Input}
-use Rattle.dr_guestlines.specs.Reading.{check, number_of, next_begins}
+use Rattle.dr_guestfile_lines.specs.declared.lines.Line.{Line}
+use Rattle.dr_guestfile_lines.specs.Input.{Input}
+use Rattle.dr_guestfile_lines.specs.Reading.{check, number_of, next_begins}
 use Rattle.dr_guestfile.specs.SlotLines.{slot_of, apart_from, admitted, some_slots, slots_from}
-use Rattle.dr_guestlines.specs.Words.{three_words, words_after}
+use Rattle.dr_guestfile_lines.specs.Words.{three_words, words_after}
 use Rattle.dr_guestfile.proofs.ReadingParts.{steps, passed, number_range}
 use Rattle.dr_guestfile.proofs.SlotParts.{AreSoFar, MayFollow, goes_on_so_far}
 

@@ -1,16 +1,17 @@
 -- What a text says of a guest, or its first fault.
-use Rattle.std.specs.Prelude.{ℕ, ◌&&◌, Bool, false, if◌then◌else◌, List, [], ◌∷◌, Option, Some, None, Result, Ok, Err, codes}
+use Rattle.std.specs.Prelude.{ℕ, ◌&&◌, Bool, false, if◌then◌else◌, List, [], ◌∷◌, Option, Some}
+use Rattle.std.specs.Prelude.{None, Result, Ok, Err, codes}
 use Rattle.std.specs.Str.{bytes_eq}
 use Rattle.dr_types.specs.declared.fault.FileFault.{FileFault}
 use Rattle.dr_types.specs.declared.fault.FileFault.TheVariants as fault
 use Rattle.dr_types.specs.declared.guest.Guest.{Guest}
-use Rattle.dr_guestlines.specs.declared.lines.Line.{Line}
-use Rattle.dr_guestlines.specs.Input.{Input, input_of}
-use Rattle.dr_guestlines.specs.Reading.{◌>>=◌}
+use Rattle.dr_guestfile_lines.specs.declared.lines.Line.{Line}
+use Rattle.dr_guestfile_lines.specs.Input.{Input, input_of}
+use Rattle.dr_guestfile_lines.specs.Reading.{◌>>=◌}
 use Rattle.dr_guestfile.specs.ScriptLines.{scripts_in}
 use Rattle.dr_guestfile.specs.SettingLines.{settings_in}
 use Rattle.dr_guestfile.specs.SlotLines.{slots_in}
-use Rattle.dr_guestlines.specs.Words.{two_words}
+use Rattle.dr_guestfile_lines.specs.Words.{two_words}
 
 -- dirtyguest 1
 abbrev pub is_magic : Option (List ℕ × List ℕ) → Bool

@@ -2,7 +2,11 @@
 use Rattle.std.specs.Prelude.{ℕ, List, [], ◌∷◌, Option, None, codes, find}
 use Rattle.std.specs.Str.{bytes_eq}
 use Rattle.dr_guestfile.specs.declared.keyword.Keyword.{Keyword}
-use Rattle.dr_guestfile.specs.declared.keyword.Keyword.TheVariants.{Dirtyguest, Ring, Reserve, Buffer, Pace, Threshold, Rounds, Quota, Slot, Vcpu, Write, Fill, Read, Add, Store, Nap, Rep, End, Halt}
+use Rattle.dr_guestfile.specs.declared.keyword.Keyword.TheVariants.{Dirtyguest, Ring, Reserve}
+use Rattle.dr_guestfile.specs.declared.keyword.Keyword.TheVariants.{Buffer, Pace, Threshold, Rounds}
+use Rattle.dr_guestfile.specs.declared.keyword.Keyword.TheVariants.{Quota, Slot, Vcpu, Write, Fill}
+use Rattle.dr_guestfile.specs.declared.keyword.Keyword.TheVariants.{Read, Add, Store, Nap, Rep, End}
+use Rattle.dr_guestfile.specs.declared.keyword.Keyword.TheVariants.{Halt}
 
 -- how a keyword is written
 abbrev pub spelling : Keyword → List ℕ

@@ -1,5 +1,6 @@
 -- The lines of a script.
-use Rattle.std.specs.Prelude.{ℕ, ◌+◌, ◌-◌, ◌/◌, ◌%◌, ◌^◌, nat_le, is_some, List, [], ◌∷◌, Option, Some, Result, Ok, Err}
+use Rattle.std.specs.Prelude.{ℕ, ◌+◌, ◌-◌, ◌/◌, ◌%◌, ◌^◌, nat_le, is_some, List, [], ◌∷◌, Option}
+use Rattle.std.specs.Prelude.{Some, Result, Ok, Err}
 use Rattle.std.specs.Option.{ok_or}
 use Rattle.dr_types.specs.declared.fault.FileFault.{FileFault}
 use Rattle.dr_types.specs.declared.fault.FileFault.TheVariants as fault
@@ -9,9 +10,9 @@ use Rattle.dr_types.specs.declared.guest.Op.TheVariants.{W, F, R, A, S, Nap, Hal
 use Rattle.dr_types.specs.Pages.{page_of_frame}
 use Rattle.dr_guestfile.specs.declared.keyword.Keyword.{Keyword}
 use Rattle.dr_guestfile.specs.declared.keyword.Keyword.TheVariants as keyword
-use Rattle.dr_guestlines.specs.Numbers.{hex_number, hex_byte_of}
-use Rattle.dr_guestlines.specs.Reading.{◌>>=◌, check, number_of}
-use Rattle.dr_guestlines.specs.Words.{one_word, two_words}
+use Rattle.dr_guestfile_lines.specs.Numbers.{hex_number, hex_byte_of}
+use Rattle.dr_guestfile_lines.specs.Reading.{◌>>=◌, check, number_of}
+use Rattle.dr_guestfile_lines.specs.Words.{one_word, two_words}
 
 -- the greatest number of 64 bits
 abbrev pub greatest : ℕ

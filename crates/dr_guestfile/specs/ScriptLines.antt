@@ -1,5 +1,6 @@
 -- The vCPU sections of a guest.
-use Rattle.std.specs.Prelude.{ℕ, ◌+◌, ◌*◌, nat_le, nat_lt, Bool, true, false, List, [], ◌∷◌, ◌++◌, length, Option, Some, Result, Ok, Err}
+use Rattle.std.specs.Prelude.{ℕ, ◌+◌, ◌*◌, nat_le, nat_lt, Bool, true, false, List, [], ◌∷◌, ◌++◌}
+use Rattle.std.specs.Prelude.{length, Option, Some, Result, Ok, Err}
 use Rattle.std.specs.Option.{ok_or}
 use Rattle.dr_types.specs.declared.fault.FileFault.{FileFault}
 use Rattle.dr_types.specs.declared.fault.FileFault.TheVariants as fault
@@ -11,17 +12,17 @@ use Rattle.dr_types.specs.declared.guest.Item.{Item}
 use Rattle.dr_types.specs.declared.guest.Item.TheVariants.{One, Rep}
 use Rattle.dr_guestfile.specs.declared.keyword.Keyword.{Keyword}
 use Rattle.dr_guestfile.specs.declared.keyword.Keyword.TheVariants as keyword
-use Rattle.dr_guestlines.specs.declared.lines.Line.{Line}
+use Rattle.dr_guestfile_lines.specs.declared.lines.Line.{Line}
 use Rattle.dr_guestfile.specs.declared.scripts.Done.{Done}
 use Rattle.dr_guestfile.specs.declared.scripts.Repeat.{Repeat}
 use Rattle.dr_guestfile.specs.declared.scripts.Place.{Place}
 use Rattle.dr_guestfile.specs.declared.scripts.Place.TheVariants as place
 use Rattle.dr_guestfile.specs.declared.scripts.Sections.{Sections}
-use Rattle.dr_guestlines.specs.Input.{Input}
+use Rattle.dr_guestfile_lines.specs.Input.{Input}
 use Rattle.dr_guestfile.specs.Keywords.{first_keyword}
 use Rattle.dr_guestfile.specs.OpLines.{op_of, op_of_body}
-use Rattle.dr_guestlines.specs.Reading.{◌>>=◌, check, number_of}
-use Rattle.dr_guestlines.specs.Words.{one_word, words_after}
+use Rattle.dr_guestfile_lines.specs.Reading.{◌>>=◌, check, number_of}
+use Rattle.dr_guestfile_lines.specs.Words.{one_word, words_after}
 
 -- a list of nothing
 abbrev pub is_empty : {X : Type 0} → List X → Bool
@@ -57,7 +58,10 @@ unfoldable pub line_of_script :
 line_of_script slots done script (Some keyword.Rep) arguments line = do
   word ← ok_or (one_word arguments) (fault.Line line)
   times ← number_of 1 200000 word line
-  Ok (record { done = done; place = place.Repeat (record { script = script; times = times; body = [] }) })
+  Ok (record {
+    done = done;
+    place = place.Repeat (record { script = script; times = times; body = [] });
+  })
 line_of_script slots done script first arguments line = do
   op ← op_of slots first arguments line
   ops ← counted done.ops 1 line
@@ -80,7 +84,8 @@ end_of_repeat done part arguments line = do
 unfoldable pub line_of_repeat :
     List SlotRow → Done → Repeat → Option Keyword → List (List ℕ) → ℕ
     → Result Sections FileFault
-line_of_repeat slots done part (Some keyword.End) arguments line = end_of_repeat done part arguments line
+line_of_repeat slots done part (Some keyword.End) arguments line =
+    end_of_repeat done part arguments line
 line_of_repeat slots done part first arguments line = do
   op ← op_of_body slots first arguments line
   Ok (record { done = done; place = place.Repeat (record part { body = part.body ++ op ∷ [] }) })
@@ -111,7 +116,8 @@ finished (place.Repeat part) scripts missing = Err missing
 -- what these lines make of the sections so far
 unfoldable pub sections_from : List SlotRow → Sections → List Line → ℕ
     → Result (List (List Item)) FileFault
-sections_from slots sections [] past = finished sections.place sections.done.scripts (fault.Line past)
+sections_from slots sections [] past =
+    finished sections.place sections.done.scripts (fault.Line past)
 sections_from slots sections (line ∷ lines) past =
     section_line slots sections line >>= λ next. sections_from slots next lines past
 

@@ -6,11 +6,11 @@ use Rattle.std.specs.Str.{bytes_eq}
 use Rattle.dr_types.specs.declared.fault.FileFault.{FileFault}
 use Rattle.dr_types.specs.declared.fault.FileFault.TheVariants as fault
 use Rattle.dr_types.specs.declared.guest.Settings.{Settings}
-use Rattle.dr_guestlines.specs.declared.lines.Line.{Line}
+use Rattle.dr_guestfile_lines.specs.declared.lines.Line.{Line}
 use Rattle.dr_guestfile.specs.declared.settings.Setting.{Setting}
-use Rattle.dr_guestlines.specs.Input.{Input}
-use Rattle.dr_guestlines.specs.Reading.{◌>>=◌, check, line_in, number_of}
-use Rattle.dr_guestlines.specs.Words.{two_words}
+use Rattle.dr_guestfile_lines.specs.Input.{Input}
+use Rattle.dr_guestfile_lines.specs.Reading.{◌>>=◌, check, line_in, number_of}
+use Rattle.dr_guestfile_lines.specs.Words.{two_words}
 
 -- a line of this name and a number in this range
 unfoldable pub setting_of : List ℕ → ℕ → ℕ → Line → Result Setting FileFault
@@ -38,7 +38,8 @@ settings_in input = do
   sized ← check (is_ring_size ring.0.number) (fault.RingSize ring.0.no)
   reserve ← setting_in (codes "reserve") 1 65535 ring.1
   buffer ← setting_in (codes "buffer") 0 512 reserve.1
-  room ← check (nat_lt (reserve.0.number + buffer.0.number) ring.0.number) (fault.Reserve buffer.0.no)
+  room ← check (nat_lt (reserve.0.number
+      + buffer.0.number) ring.0.number) (fault.Reserve buffer.0.no)
   pace ← setting_in (codes "pace") 1 200000 buffer.1
   threshold ← setting_in (codes "threshold") 0 16384 pace.1
   rounds ← setting_in (codes "rounds") 1 64 threshold.1

@@ -1,5 +1,7 @@
 -- The slot lines of a guest.
-use Rattle.std.specs.Prelude.{ℕ, ◌+◌, ◌-◌, ◌*◌, ◌^◌, ◌==◌, nat_le, nat_lt, not, if◌then◌else◌, List, [], ◌∷◌, ◌++◌, length, Option, Some, None, Result, Ok, Err, codes, find, ◌≤◌, All}
+use Rattle.std.specs.Prelude.{ℕ, ◌+◌, ◌-◌, ◌*◌, ◌^◌, ◌==◌, nat_le, nat_lt, not, if◌then◌else◌, List}
+use Rattle.std.specs.Prelude.{[], ◌∷◌, ◌++◌, length, Option, Some, None, Result, Ok, Err, codes}
+use Rattle.std.specs.Prelude.{find, ◌≤◌, All}
 use Rattle.std.specs.Option.{ok_or}
 use Rattle.std.specs.List.{list_any}
 use Rattle.dr_types.specs.declared.fault.FileFault.{FileFault}
@@ -8,10 +10,10 @@ use Rattle.dr_types.specs.declared.fault.What.TheVariants as what
 use Rattle.dr_types.specs.declared.guest.SlotRow.{SlotRow}
 use Rattle.dr_types.specs.Pages.{pages_of_slots}
 use Rattle.dr_types.specs.Validity.{meet}
-use Rattle.dr_guestlines.specs.declared.lines.Line.{Line}
-use Rattle.dr_guestlines.specs.Input.{Input}
-use Rattle.dr_guestlines.specs.Reading.{◌>>=◌, check, number_of, next_begins, next_number}
-use Rattle.dr_guestlines.specs.Words.{three_words, words_after}
+use Rattle.dr_guestfile_lines.specs.declared.lines.Line.{Line}
+use Rattle.dr_guestfile_lines.specs.Input.{Input}
+use Rattle.dr_guestfile_lines.specs.Reading.{◌>>=◌, check, number_of, next_begins, next_number}
+use Rattle.dr_guestfile_lines.specs.Words.{three_words, words_after}
 
 -- slots whose sums are small
 pub record AreInBounds (rows : List SlotRow) : Type 0 where
@@ -40,7 +42,8 @@ admitted rounds earlier row line = do
   once ← check (not (list_any (λ slot. slot.id == row.id) earlier)) (fault.SlotTwice line)
   apart ← apart_from (find (λ slot. meet slot row) earlier) row
   small ← check (nat_le (pages_of_slots earlier + row.pages) 16384) (fault.TooLarge what.Pages line)
-  check (nat_le ((pages_of_slots earlier + row.pages) * (rounds + 1)) 262144) (fault.TooLarge what.Copies line)
+  check (nat_le ((pages_of_slots earlier + row.pages) * (rounds
+      + 1)) 262144) (fault.TooLarge what.Copies line)
 
 -- the slots, where there is one
 abbrev pub some_slots : List SlotRow → Input → Result (List SlotRow × Input) FileFault

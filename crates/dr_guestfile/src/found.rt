@@ -1,5 +1,5 @@
 use crate::keyword::Keyword;
-use dr_guestlines::{Words, decimal};
+use dr_guestfile_lines::{Words, decimal};
 use dr_types::Memory;
 use std::alloc::Global;
 

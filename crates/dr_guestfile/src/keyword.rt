@@ -1,8 +1,9 @@
 ghost use Rattle.std.specs.Prelude.{◌≡◌};
-ghost use Rattle.dr_guestlines.specs.Words.{words_after};
-ghost use Rattle.dr_guestfile.specs.Keywords.{spelling as spelling_of, keyword_of, first_keyword as first_of};
+ghost use Rattle.dr_guestfile_lines.specs.Words.{words_after};
+ghost use Rattle.dr_guestfile.specs.Keywords.{spelling as spelling_of, keyword_of};
+ghost use Rattle.dr_guestfile.specs.Keywords.{first_keyword as first_of};
 
-use dr_guestlines::Words;
+use dr_guestfile_lines::Words;
 
 /// The words that a line may begin with.
 #[derive(Clone, Copy, Debug, PartialEq, Eq)]

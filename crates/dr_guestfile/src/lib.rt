@@ -16,7 +16,7 @@ mod settings;
 mod slot_lines;
 mod slot_texts;
 
-pub use dr_guesttext::write_guest;
+pub use dr_guestfile_text::write_guest;
 pub use explaining::{Explained, explain};
 pub use law::read_is_valid;
 pub use reading::read_guest;

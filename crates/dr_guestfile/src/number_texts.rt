@@ -3,7 +3,7 @@ use crate::keyword::Keyword;
 use crate::line_texts::plain;
 use crate::settings::is_ring_size;
 use crate::slot_lines::FRAMES_END;
-use dr_guestlines::{hex_byte, hex_word, number};
+use dr_guestfile_lines::{hex_byte, hex_word, number};
 use dr_types::limits::{
     GREATEST_BUFFER, GREATEST_PACE, GREATEST_QUOTA, GREATEST_RESERVE, GREATEST_RING,
     GREATEST_SLOT_ID, GREATEST_THRESHOLD, LEAST_RING, LONGEST_NAP_US, MOST_OPS, MOST_PAGES,

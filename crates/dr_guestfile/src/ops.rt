@@ -1,8 +1,9 @@
 ghost use Rattle.std.specs.Prelude.{◌≡◌, ◌/◌};
-ghost use Rattle.dr_guestfile.specs.OpLines.{placed, write_of, fill_of, read_of, add_of, store_of, nap_of, halt_of, op_of, going_on, op_of_body};
+ghost use Rattle.dr_guestfile.specs.OpLines.{placed, write_of, fill_of, read_of, add_of, store_of};
+ghost use Rattle.dr_guestfile.specs.OpLines.{nap_of, halt_of, op_of, going_on, op_of_body};
 
 use crate::keyword::Keyword;
-use dr_guestlines::{Words, hex_byte, hex_word, number};
+use dr_guestfile_lines::{Words, hex_byte, hex_word, number};
 use dr_slots::Slots;
 use dr_types::limits::LONGEST_NAP_US;
 use dr_types::{FileFault, Op};

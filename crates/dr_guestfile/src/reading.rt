@@ -1,12 +1,12 @@
 ghost use Rattle.std.specs.Prelude.{◌≡◌, IfOk};
 ghost use Rattle.dr_types.specs.Validity.{IsValid};
-ghost use Rattle.dr_guestlines.specs.Reading.{Reads, Answers};
+ghost use Rattle.dr_guestfile_lines.specs.Reading.{Reads, Answers};
 ghost use Rattle.dr_guestfile.specs.GuestTexts.{magic_in, guest_of};
 
 use crate::scripts::scripts;
 use crate::settings::settings;
 use crate::slot_lines::slots;
-use dr_guestlines::Lines;
+use dr_guestfile_lines::Lines;
 use dr_slots::Slots;
 use dr_types::{FileFault, Guest};
 use std::alloc::Global;

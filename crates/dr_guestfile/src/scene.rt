@@ -1,6 +1,6 @@
 use crate::found::Found;
 use crate::keyword::Keyword;
-use dr_guestlines::{Line, Lines, decimal, number};
+use dr_guestfile_lines::{Line, Lines, decimal, number};
 use dr_types::limits::{GREATEST_SLOT_ID, MOST_SLOTS};
 use dr_types::{FileFault, Memory, SlotRow};
 use std::alloc::Global;

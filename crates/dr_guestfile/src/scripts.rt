@@ -1,10 +1,13 @@
 ghost use Rattle.std.specs.Prelude.{◌≡◌, ◌≤◌, ◌*◌, length, IfOk};
-ghost use Rattle.dr_guestlines.specs.Reading.{Answers};
-ghost use Rattle.dr_guestfile.specs.ScriptLines.{counted, after_op as placed, line_between, line_of_script, end_of_repeat, line_of_repeat, section_line as next_sections, finished, scripts_in};
+ghost use Rattle.dr_guestfile_lines.specs.Reading.{Answers};
+ghost use Rattle.dr_guestfile.specs.ScriptLines.{counted, after_op as placed, line_between};
+ghost use Rattle.dr_guestfile.specs.ScriptLines.{line_of_script, end_of_repeat, line_of_repeat};
+ghost use Rattle.dr_guestfile.specs.ScriptLines.{section_line as next_sections, finished};
+ghost use Rattle.dr_guestfile.specs.ScriptLines.{scripts_in};
 
 use crate::keyword::{Keyword, first_keyword};
 use crate::ops::{body_op, op};
-use dr_guestlines::{Line, Lines, Words, number};
+use dr_guestfile_lines::{Line, Lines, Words, number};
 use dr_slots::Slots;
 use dr_types::limits::{MOST_OPS, MOST_VCPUS};
 use dr_types::{FileFault, Item, Op, OpList, Script, ScriptList, What};

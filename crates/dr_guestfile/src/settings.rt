@@ -1,8 +1,9 @@
 ghost use Rattle.std.specs.Prelude.{◌≡◌, ◌≤◌, IfOk};
-ghost use Rattle.dr_guestlines.specs.Reading.{Reads};
-ghost use Rattle.dr_guestfile.specs.SettingLines.{setting_of, setting_in, settings_in, is_ring_size as ring_size};
+ghost use Rattle.dr_guestfile_lines.specs.Reading.{Reads};
+ghost use Rattle.dr_guestfile.specs.SettingLines.{setting_of, setting_in, settings_in};
+ghost use Rattle.dr_guestfile.specs.SettingLines.{is_ring_size as ring_size};
 
-use dr_guestlines::{Line, Lines, number};
+use dr_guestfile_lines::{Line, Lines, number};
 use dr_types::limits::{
     GREATEST_BUFFER, GREATEST_PACE, GREATEST_QUOTA, GREATEST_RESERVE, GREATEST_RING,
     GREATEST_THRESHOLD, LEAST_RING, MOST_ROUNDS,

@@ -2,10 +2,11 @@ ghost use Rattle.std.specs.Prelude.{◌≡◌, ◌+◌, ◌^◌, ◌<◌, ◌≤
 ghost use Rattle.std.specs.List.{list_any};
 ghost use Rattle.dr_types.specs.Pages.{pages_of_slots};
 ghost use Rattle.dr_types.specs.Validity.{meet};
-ghost use Rattle.dr_guestlines.specs.Reading.{Gives};
-ghost use Rattle.dr_guestfile.specs.SlotLines.{AreInBounds, slot_of, apart_from, admitted, slots_in};
+ghost use Rattle.dr_guestfile_lines.specs.Reading.{Gives};
+ghost use Rattle.dr_guestfile.specs.SlotLines.{AreInBounds, slot_of, apart_from, admitted};
+ghost use Rattle.dr_guestfile.specs.SlotLines.{slots_in};
 
-use dr_guestlines::{Line, Lines, number};
+use dr_guestfile_lines::{Line, Lines, number};
 use dr_slots::pages_in;
 use dr_types::limits::{GREATEST_SLOT_ID, MOST_COPIES, MOST_PAGES, MOST_SLOTS};
 use dr_types::{FileFault, SlotList, SlotRow, What};

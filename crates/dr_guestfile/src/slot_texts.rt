@@ -2,7 +2,7 @@ use crate::found::Found;
 use crate::keyword::Keyword;
 use crate::line_texts::plain;
 use crate::scene::{Above, SlotLine, slot_of};
-use dr_guestlines::hex_word;
+use dr_guestfile_lines::hex_word;
 use dr_types::{Memory, SlotRow, Text};
 use std::alloc::Global;
 

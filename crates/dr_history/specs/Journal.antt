@@ -9,4 +9,5 @@ use Rattle.dr_history.specs.Lines.{text}
 -- the guest's lines, a line `journal`, the events' lines and a line `end`
 abbrev pub journal_text : Guest → List Event → List ℕ
 journal_text guest past =
-    guest_text guest ++ line_text (codes "journal" ∷ []) ++ text past ++ line_text (codes "end" ∷ [])
+    guest_text guest ++ line_text (codes "journal" ∷ [])
+    ++ text past ++ line_text (codes "end" ∷ [])

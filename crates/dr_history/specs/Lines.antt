@@ -1,8 +1,13 @@
 -- The text of a history: a line for each event.
-use Rattle.std.specs.Prelude.{ℕ, ◌<◌, ◌≤◌, ◌^◌, List, [], ◌∷◌, ◌++◌, All, length, map, codes, decimal}
+use Rattle.std.specs.Prelude.{ℕ, ◌<◌, ◌≤◌, ◌^◌, List, [], ◌∷◌, ◌++◌, All, length, map, codes}
+use Rattle.std.specs.Prelude.{decimal}
 use Rattle.hex.specs.Hex.{encode_lower}
 use Rattle.dr_history.specs.declared.event.Event.{Event}
-use Rattle.dr_history.specs.declared.event.Event.TheVariants.{Start, Read, Write, Paint, Local, Halted, Opened, Filled, Pushed, Exited, Deposited, Reset, Flushed, Asked, Synced, Copied, Throttled, Stopped, Switched}
+use Rattle.dr_history.specs.declared.event.Event.TheVariants.{Start, Read, Write, Paint, Local}
+use Rattle.dr_history.specs.declared.event.Event.TheVariants.{Halted, Opened, Filled, Pushed}
+use Rattle.dr_history.specs.declared.event.Event.TheVariants.{Exited, Deposited, Reset, Flushed}
+use Rattle.dr_history.specs.declared.event.Event.TheVariants.{Asked, Synced, Copied, Throttled}
+use Rattle.dr_history.specs.declared.event.Event.TheVariants.{Stopped, Switched}
 use Rattle.dr_types.specs.declared.guest.Why.{Why}
 use Rattle.dr_types.specs.declared.guest.Why.TheVariants as reason
 use Rattle.dr_types.specs.Lines.{line_text, low_bytes}
@@ -49,11 +54,12 @@ abbrev pub text : List Event → List ℕ
 text [] = []
 text (e ∷ earlier) = text earlier ++ event_line e
 
--- the event has a line of its own: each number is one of its type, and a Write has one to eight bytes that
--- hold its value
+-- the event has a line of its own: each number is one of its type, and a Write has one to eight
+-- bytes that hold its value
 abbrev pub FitsLine : Event → Type 0
 FitsLine (Start at) = at < 2 ^ 64
-FitsLine (Read v i address value) = (v < 2 ^ 32) × (i < 2 ^ 32) × (address < 2 ^ 64) × (value < 2 ^ 64)
+FitsLine (Read v i address value) =
+    (v < 2 ^ 32) × (i < 2 ^ 32) × (address < 2 ^ 64) × (value < 2 ^ 64)
 FitsLine (Write v i address len value) =
     (v < 2 ^ 32) × (i < 2 ^ 32) × (address < 2 ^ 64) × (1 ≤ len) × (len ≤ 8) × (value < 256 ^ len)
 FitsLine (Paint v i page byte) = (v < 2 ^ 32) × (i < 2 ^ 32) × (page < 2 ^ 32) × (byte < 256)

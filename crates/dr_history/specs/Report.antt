@@ -1,5 +1,6 @@
 -- The report of a history, as a text.
-use Rattle.std.specs.Prelude.{ℕ, Bool, false, ◌+◌, ◌==◌, nat_le, List, [], ◌∷◌, ◌++◌, length, codes, if◌then◌else◌}
+use Rattle.std.specs.Prelude.{ℕ, Bool, false, ◌+◌, ◌==◌, nat_le, List, [], ◌∷◌, ◌++◌, length, codes}
+use Rattle.std.specs.Prelude.{if◌then◌else◌}
 use Rattle.std.specs.List.{flat_map, list_any}
 use Rattle.std.specs.Fmt.{decimal}
 use Rattle.dr_history.specs.declared.event.Event.{Event}
@@ -70,7 +71,8 @@ vcpu_line v ops full kicked =
     line_text (codes "vcpu" ∷ decimal v ∷ codes "ops" ∷ decimal ops
     ∷ codes "full" ∷ decimal full ∷ codes "kicked" ∷ decimal kicked ∷ [])
 
--- a vCPU's line of an answer, where past is the whole history and earlier the events before the answer
+-- a vCPU's line of an answer, where past is the whole history and earlier the events before the
+-- answer
 abbrev pub share_text : List Event → ℕ → ℕ → List Event → ℕ → List ℕ
 share_text past r at earlier v =
     share_line v (count (is_pushed_of v) (since begins_span earlier)) (current_rate v at earlier)
@@ -80,7 +82,8 @@ share_text past r at earlier v =
 abbrev pub rounds_text : Guest → List Event → List Event → List ℕ
 rounds_text guest past [] = []
 rounds_text guest past (Synced r at pages ∷ earlier) =
-    rounds_text guest past earlier ++ round_line r (length pages) (count (copies_in_round r) past) at
+    rounds_text guest past earlier
+    ++ round_line r (length pages) (count (copies_in_round r) past) at
     ++ flat_map (share_text past r at earlier) (below (vcpu_count guest))
 rounds_text guest past (e ∷ earlier) = rounds_text guest past earlier
 

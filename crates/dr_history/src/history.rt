@@ -1,4 +1,5 @@
-ghost use Rattle.std.specs.Prelude.{◌≡◌, ◌+◌, ◌≤◌, ◌<◌, ◌^◌, [], ◌∷◌, length, reverse, All, IfOk, OnOk, OnErr, IfErr};
+ghost use Rattle.std.specs.Prelude.{◌≡◌, ◌+◌, ◌≤◌, ◌<◌, ◌^◌, [], ◌∷◌, length, reverse, All, IfOk};
+ghost use Rattle.std.specs.Prelude.{OnOk, OnErr, IfErr};
 ghost use Rattle.dr_history.specs.Lines.{FitsLine, text};
 
 use crate::event::Event;
@@ -27,7 +28,10 @@ impl Model for History {
 
     ghost Value = { Record };
 
-    ghost view = { λ h. record { past = reverse h.events.items; spare = vec_capacity h.events - vec_len h.events } };
+    ghost view = { λ h. record {
+      past = reverse h.events.items;
+      spare = vec_capacity h.events - vec_len h.events;
+    } };
 
     ghost invariant = { λ h. All FitsLine h.events.items };
 }
@@ -53,10 +57,10 @@ impl History {
 
     /// Each event fits its line.
     #[tactic(auto, using(crate::proofs::Fitting::all_reversed))]
-    pub fn fits_lines(&self)
+    pub fn recall_lines(&self)
         ensures { All FitsLine self.now.past }
     {
-        let _events = self.events.as_slice();
+        let _recall_events = self.events.as_slice();
     }
 
     /// How many events there are.

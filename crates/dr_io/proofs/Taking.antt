@@ -26,7 +26,7 @@ taken_more : (told all buf : List ℕ) (n : ℕ) (mid new : Option (List ℕ)) �
     → IsTaken told (all ++ take n buf) new
 taken_more told all buf n mid new t fits has same rest =
     let long : length (all ++ take n buf) ≡ length all + n = length-append all (take n buf) ∙ ap (λ k. length all + k) (length-take-le n buf fits) in
-    let left : length (drop (length all) told) ≡ length told - length all = length-drop (length all) told in
+    let remaining : length (drop (length all) told) ≡ length told - length all = length-drop (length all) told in
     record {
       within = rw long (omega (arith, t.within));
       same = rw long (ap (λ xs. xs ++ take n buf) t.same ∙ ap (λ ys. take (length all) told ++ ys) same ∙ sym (take-add (length all) n told));
@@ -97,7 +97,7 @@ cut_short limit before then now old mid new all buf turn t r is fits =
       fits = λ bytes no. absurd (cc (no));
       part = λ why told no e. part_taken told all new (rw kept (t.taken told e));
       long = λ told rest no. absurd (cc (no));
-      short = λ told rest no e left. omega (arith, left_over told all rest new (rw kept (t.taken told e)) left);
+      short = λ told rest no e remaining. omega (arith, left_over told all rest new (rw kept (t.taken told e)) remaining);
       later = omega (arith, t.later, r.later);
       risen = λ no. omega (arith, t.later, r.risen is);
     }

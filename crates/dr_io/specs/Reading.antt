@@ -1,5 +1,6 @@
 -- What reads do to a source.
-use Rattle.std.specs.Prelude.{◌≡◌, ℕ, ◌+◌, ◌≤◌, ◌<◌, List, [], take, drop, length, Option, Some, Result, Ok, Err}
+use Rattle.std.specs.Prelude.{◌≡◌, ℕ, ◌+◌, ◌≤◌, ◌<◌, List, [], take, drop, length, Option, Some}
+use Rattle.std.specs.Prelude.{Result, Ok, Err}
 use Rattle.dr_types.specs.Ports.{Rose}
 use Rattle.dr_io.specs.declared.source.ReadTurn.{ReadTurn}
 use Rattle.dr_io.specs.declared.source.ReadTurn.TheVariants.{Bytes, End, Failed}
@@ -22,11 +23,14 @@ abbrev pub IsPartTaken : List ℕ → Option (List ℕ) → Type 0
 IsPartTaken told new = (n : ℕ) × (n ≤ length told) × (new ≡ Some (drop n told))
 
 -- all that is left: at most so many bytes, or more of them were taken, or a fault was counted
-pub record ReadsAll (limit : ℕ) (old : Option (List ℕ)) (before : ℕ) (result : Result (List ℕ) ReadFault)
+pub record ReadsAll (limit : ℕ) (old : Option (List ℕ)) (before : ℕ)
+    (result : Result (List ℕ) ReadFault)
     (new : Option (List ℕ)) (now : ℕ) : Type 0 where
-  pub all : (bytes told : List ℕ) → result ≡ Ok bytes → old ≡ Some told → (bytes ≡ told) × (new ≡ Some [])
+  pub all : (bytes told : List ℕ) → result ≡ Ok bytes → old ≡ Some told → (bytes ≡ told)
+      × (new ≡ Some [])
   pub fits : (bytes : List ℕ) → result ≡ Ok bytes → length bytes ≤ limit
-  pub part : (why : ReadFault) (told : List ℕ) → result ≡ Err why → old ≡ Some told → IsPartTaken told new
+  pub part : (why : ReadFault) (told : List ℕ) → result ≡ Err why → old ≡ Some told
+      → IsPartTaken told new
   pub long : (told rest : List ℕ) → result ≡ Err fault.TooLong → old ≡ Some told → new ≡ Some rest
       → limit + length rest < length told
   pub short : (told rest : List ℕ) → result ≡ Err fault.Failed → old ≡ Some told → new ≡ Some rest

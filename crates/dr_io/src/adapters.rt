@@ -36,7 +36,7 @@ impl<R: Read + Drop> ReadSource<R> {
 }
 
 impl<R: Read + Drop> Source for ReadSource<R> {
-    ghost left = { λ s. None };
+    ghost remaining = { λ s. None };
 
     ghost faults = { λ s. s };
 

@@ -25,7 +25,7 @@ impl Model for ByteSource {
     ghost Value = { Feed };
 
     ghost view = { λ s. record {
-      left = drop s.taken s.bytes;
+      remaining = drop s.taken s.bytes;
       piece = s.piece;
       fails = s.fails;
       reads = s.reads;
@@ -53,15 +53,15 @@ impl ByteSource {
 }
 
 impl Source for ByteSource {
-    ghost left = { λ s. Some s.left };
+    ghost remaining = { λ s. Some s.remaining };
 
     ghost faults = { λ s. s.faults };
 
     /// Reads the next bytes into the front of `buf`.
     fn read(&mut self, buf: &mut [u8]) -> ReadTurn
         requires { 0 < length buf.old }
-        ensures reads { Reads (Some self.old.left) self.old.faults buf.new result
-            (Some self.new.left) self.new.faults }
+        ensures reads { Reads (Some self.old.remaining) self.old.faults buf.new result
+            (Some self.new.remaining) self.new.faults }
         ensures turn { result ≡ next_turn self.old (length buf.old) }
         ensures after { self.new ≡ after_read self.old result }
     {
@@ -70,12 +70,12 @@ impl Source for ByteSource {
             self.faults = self.faults.saturating_add(1);
             return ReadTurn::Failed;
         }
-        let left = &self.bytes.as_slice()[self.taken..];
-        if left.is_empty() {
+        let remaining = &self.bytes.as_slice()[self.taken..];
+        if remaining.is_empty() {
             return ReadTurn::End;
         }
-        let n = left.len().min(self.piece).min(buf.len());
-        buf[..n].copy_from_slice(&left[..n]);
+        let n = remaining.len().min(self.piece).min(buf.len());
+        buf[..n].copy_from_slice(&remaining[..n]);
         self.taken += n;
         ReadTurn::Bytes(n)
     }

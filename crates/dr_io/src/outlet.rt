@@ -7,7 +7,9 @@ use dr_types::Port;
 /// How a put ended.
 #[derive(Clone, Copy, Debug, PartialEq, Eq)]
 pub enum PutTurn {
+    /// All bytes were taken.
     Done,
+    /// At most a first part of them was taken.
     Failed,
 }
 

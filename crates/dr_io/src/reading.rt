@@ -18,8 +18,8 @@ pub enum ReadFault {
 /// All that is left, where that is at most `limit` bytes. After an `Err` the bytes taken are gone
 /// from the source, and there are at most 4,096 more of them than `limit`.
 pub fn read_all<S: Source>(alloc: Global, source: &mut S, limit: u64) -> Result<Bytes, ReadFault>
-    ensures { ReadsAll limit (S.left source.old) (S.faults source.old) result
-        (S.left source.new) (S.faults source.new) }
+    ensures { ReadsAll limit (S.remaining source.old) (S.faults source.old) result
+        (S.remaining source.new) (S.faults source.new) }
 {
     let mut all = Listed::new(alloc);
     let mut buf = [0; 4096];

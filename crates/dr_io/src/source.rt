@@ -4,14 +4,17 @@ ghost use Rattle.dr_io.specs.Reading.{Reads};
 /// How a read ended: so many bytes came, or nothing is left, or it failed.
 #[derive(Clone, Copy, Debug, PartialEq, Eq)]
 pub enum ReadTurn {
+    /// So many bytes came.
     Bytes(usize),
+    /// Nothing is left.
     End,
+    /// The read failed, and took nothing.
     Failed,
 }
 
 /// What gives bytes. It tells what is left, or nothing, and counts its faults.
 pub trait Source {
-    ghost left: { Self → Option (List ℕ) };
+    ghost remaining: { Self → Option (List ℕ) };
 
     ghost faults: { Self → ℕ };
 
@@ -19,6 +22,6 @@ pub trait Source {
     /// unless nothing is left or the read fails.
     fn read(&mut self, buf: &mut [u8]) -> ReadTurn
         requires { 0 < length buf.old }
-        ensures { Reads (left self.old) (faults self.old) buf.new result
-            (left self.new) (faults self.new) };
+        ensures { Reads (remaining self.old) (faults self.old) buf.new result
+            (remaining self.new) (faults self.new) };
 }

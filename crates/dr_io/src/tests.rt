@@ -67,11 +67,11 @@ impl Write for Pipe {
             self.interrupts -= 1;
             return Err(io::Error::from(ErrorKind::Interrupted));
         }
-        let left = self.room.saturating_sub(self.taken.len());
-        if left == 0 {
+        let remaining = self.room.saturating_sub(self.taken.len());
+        if remaining == 0 {
             return Err(io::Error::from(ErrorKind::BrokenPipe));
         }
-        let n = buf.len().min(self.piece).min(left);
+        let n = buf.len().min(self.piece).min(remaining);
         match self.taken.append(&buf[..n]) {
             Ok(()) => Ok(n),
             Err(_) => Err(io::Error::from(ErrorKind::OutOfMemory)),

@@ -9,8 +9,8 @@ use dr_types::Throttle;
 #[cfg(test)]
 mod tests;
 
-/// The throttle of a vCPU after an answer that found this rate: `quota` and `current` in KiB a second,
-/// `ring` the size of its ring in entries.
+/// The throttle of a vCPU after an answer that found this rate: `quota` and `current` in KiB a
+/// second, `ring` the size of its ring in entries.
 #[tactic(auto, using(crate::proofs::Products::sleep_fits))]
 pub fn next(throttle: Throttle, quota: u64, current: u64, ring: u32) -> Throttle
     requires us { throttle.us ≤ 25952256000000 }
@@ -21,6 +21,8 @@ pub fn next(throttle: Throttle, quota: u64, current: u64, ring: u32) -> Throttle
     ensures value { result ≡ next_throttle throttle quota current ring }
     ensures fits { result.us ≤ 25952256000000 }
 {
+    // The numbers are QEMU's: it tolerates 25 MiB a second of distance, leaps where that is more
+    // than half, and never lets a vCPU sleep for more than 99 parts in 100.
     let high = quota.max(current);
     let low = quota.min(current);
     if high - low <= 25_600 {

@@ -6,3 +6,4 @@ pub mod Rowwise
 pub mod Sized
 pub mod Rooms
 pub mod Limits
+pub mod Used

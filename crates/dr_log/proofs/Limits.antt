@@ -12,10 +12,10 @@ use Rattle.dr_history.specs.declared.event.Event.{Event}
 use Rattle.dr_history.specs.Execution.{ops}
 use Rattle.dr_history.specs.Legality.{IsLegalSoFar}
 use Rattle.dr_history.specs.Memory.{page_bytes, loaded}
-use Rattle.dr_may.specs.Operations.{loaded_from, value_at}
-use Rattle.dr_law.specs.Length.{script_length}
-use Rattle.dr_law.proofs.Length.{stays_in_script}
-use Rattle.dr_law.proofs.Limits.{script_in_total}
+use Rattle.dr_event_law.specs.Operations.{loaded_from, value_at}
+use Rattle.dr_history_law.specs.Length.{script_length}
+use Rattle.dr_history_law.proofs.Length.{stays_in_script}
+use Rattle.dr_history_law.proofs.Limits.{script_in_total}
 
 pub few_pages : (guest : Guest) → IsValid guest → page_count guest < 2 ^ 32
 few_pages guest valid = let few : pages_of_slots guest.slots ≤ 16384 = valid.slots.pages in omega arith

@@ -6,7 +6,7 @@ use Rattle.std.proofs.lemmas.List.Folds.{list_all-map}
 use Rattle.dr_types.specs.declared.guest.Guest.{Guest}
 use Rattle.dr_types.specs.Pages.{page_count}
 use Rattle.dr_types.specs.Scripts.{vcpu_count}
-use Rattle.dr_flags.specs.Marked.{is_set}
+use Rattle.dr_marks.specs.Marked.{is_set}
 use Rattle.dr_history.specs.declared.event.Event.{Event}
 use Rattle.dr_history.specs.Legality.{IsLegalSoFar}
 use Rattle.dr_history.specs.Lookback.{since, before, below}
@@ -14,7 +14,7 @@ use Rattle.dr_history.specs.Kinds.{is_asked}
 use Rattle.dr_history.specs.Protection.{closing}
 use Rattle.dr_history.specs.Rounds.{is_reset_in}
 use Rattle.dr_history.specs.Vcpus.{all_paced, some_kicked}
-use Rattle.dr_law.proofs.Covered.{covered}
+use Rattle.dr_history_law.proofs.Covered.{covered}
 use Rattle.dr_state.specs.Rows.{table, rows_of, row_of}
 use Rattle.dr_state.specs.declared.vcpus.Vcpu.{Vcpu}
 use Rattle.dr_log.specs.Tests.{row_paced, row_paced_recently, row_kicked, row_covered}

@@ -1,5 +1,5 @@
 pub mod Room
-pub mod State
+pub mod Views
 pub mod Sizes
 pub mod Tests
 pub mod Answered

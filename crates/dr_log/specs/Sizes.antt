@@ -2,11 +2,11 @@
 use Rattle.std.specs.Prelude.{◌≡◌, ◌<◌, ◌^◌, length}
 use Rattle.dr_types.specs.declared.guest.Guest.{Guest}
 use Rattle.dr_types.specs.Pages.{page_count}
-use Rattle.dr_state.specs.declared.replay.Replay.{Replay}
+use Rattle.dr_state.specs.declared.state_fields.State.{State}
 
 -- so many pages and vCPUs as the guest has
-pub record IsSized (guest : Guest) (it : Replay) : Type 0 where
+pub record IsSized (guest : Guest) (it : State) : Type 0 where
   pub few_pages : page_count guest < 2 ^ 32
   pub few_vcpus : length guest.scripts < 2 ^ 32
-  pub shield : it.protection.permissions.pages ≡ page_count guest
+  pub protection : it.protection.permissions.pages ≡ page_count guest
   pub memory : length it.memory.pages ≡ page_count guest

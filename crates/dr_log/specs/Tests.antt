@@ -1,11 +1,12 @@
 -- Tests of the state.
 use Rattle.std.specs.Prelude.{ℕ, Bool, false, ◌||◌, nat_le, List, slice_index_or}
-use Rattle.dr_state.specs.declared.ring.Entry.{Entry}
+use Rattle.dr_state.specs.declared.entry_fields.OpenedEntry.{OpenedEntry}
 use Rattle.dr_state.specs.declared.vcpus.Vcpu.{Vcpu}
 
 -- the entry of this number is deposited
-abbrev pub deposited_at : List Entry → ℕ → Bool
-deposited_at entries k = (slice_index_or entries k (record { page = 0; deposited = false })).deposited
+abbrev pub deposited_at : List OpenedEntry → ℕ → Bool
+deposited_at entries k =
+    (slice_index_or entries k (record { page = 0; deposited = false })).deposited
 
 -- a vCPU has executed enough, or has halted
 abbrev pub row_paced : ℕ → Vcpu → Bool

@@ -1,5 +1,5 @@
-//! A guest with its legal history. Every read tells what the events so far leave, by a look-back over them,
-//! and nobody looks back: the state beside the events is known to this crate alone.
+//! A guest with its legal history. Every read tells what the events so far leave, by a look-back
+//! over them, and nobody looks back: the state beside the events is known to this crate alone.
 #![tactic(auto)]
 
 mod answers;

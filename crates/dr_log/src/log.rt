@@ -1,44 +1,47 @@
-ghost use Rattle.std.specs.Prelude.{◌≡◌, ◌<◌, ◌≤◌, ◌+◌, ◌^◌, true, reverse, [], ◌∷◌, All, OnOk, OnErr, IfOk};
+ghost use Rattle.std.specs.Prelude.{◌≡◌, ◌<◌, ◌≤◌, ◌+◌, ◌^◌, true, reverse, [], ◌∷◌, All, OnOk};
+ghost use Rattle.std.specs.Prelude.{OnErr, IfOk};
 ghost use Rattle.dr_types.specs.Pages.{page_count};
 ghost use Rattle.dr_types.specs.Validity.{IsValid};
 ghost use Rattle.dr_history.specs.Legality.{IsLegalSoFar};
 ghost use Rattle.dr_history.specs.Lines.{FitsLine};
 ghost use Rattle.dr_history.specs.Rounds.{answered_pages};
-ghost use Rattle.dr_may.specs.May.{MayFollow};
+ghost use Rattle.dr_event_law.specs.May.{MayFollow};
 ghost use Rattle.dr_types.specs.Scripts.{vcpu_count};
 ghost use Rattle.dr_log.specs.Room.{HasEntry, HasRoomFor, has_page};
 
 use dr_history::{Event, History};
-use dr_state::Replay;
+use dr_state::State;
 use dr_types::{Guest, Listed, Memory, PageList};
 use std::alloc::Global;
 use std::marker::Model;
 
-/// A guest and what has happened to it, legal so far, with the state that its reads tell kept beside the events.
-/// Contracts see the guest, the events, the newest first, and the room that was made for more.
+/// A guest and what has happened to it, legal so far, with the state that its reads tell kept
+/// beside the events. Contracts see the guest, the events, the newest first, and the room that was
+/// made for more.
 #[derive(Drop)]
 pub struct Log {
     alloc: Global,
     pub(crate) guest: Guest,
     pub(crate) history: History,
-    pub(crate) replay: Replay,
+    pub(crate) state: State,
 }
 
 impl Model for Log {
     ghost use Rattle.dr_types.specs.Validity.{IsValid};
-    ghost use Rattle.dr_state.specs.Whole.{IsReplay};
+    ghost use Rattle.dr_state.specs.Whole.{IsStateOf};
     ghost use Rattle.dr_log.specs.Room.{room_of};
-    ghost use Rattle.dr_log.specs.State.{State};
+    ghost use Rattle.dr_log.specs.Views.{LogView};
 
-    ghost Value = { State };
+    ghost Value = { LogView };
 
     ghost view = { λ c. record {
       guest = c.guest;
       past = c.history.past;
-      room = room_of c.history.spare c.replay.entries.rows.items c.replay.protection.closing.1 c.replay.memory;
+      room = room_of c.history.spare c.state.entries.rows.items c.state.protection.closing.1
+          c.state.memory;
     } };
 
-    ghost invariant = { λ c. IsValid c.guest × IsReplay c.guest c.history.past c.replay };
+    ghost invariant = { λ c. IsValid c.guest × IsStateOf c.guest c.history.past c.state };
 }
 
 /// A copy of the pages of an answer.
@@ -54,7 +57,7 @@ fn copied_pages(alloc: Global, e: &Event) -> Result<PageList, Memory>
 
 impl Log {
     /// The log of a guest to which nothing has happened. `Err` for want of memory alone.
-    #[tactic(auto, using(dr_state::proofs::Valid::can_replay))]
+    #[tactic(auto, using(dr_state::proofs::Valid::fits_state))]
     pub fn new(alloc: Global, guest: &Guest) -> Result<Log, Memory>
         requires { IsValid guest.now }
         ensures guest { IfOk result (λ log. log.guest ≡ guest.now) }
@@ -64,13 +67,13 @@ impl Log {
             alloc,
             guest: guest.clone()?,
             history: History::new(alloc)?,
-            replay: Replay::new(alloc, guest)?,
+            state: State::new(alloc, guest)?,
         })
     }
 
     /// Takes an event that breaks no rule behind those before it. It isn't judged. An `Err` changes
     /// nothing, and comes for want of memory alone.
-    #[tactic(auto, using(dr_state::proofs::Valid::can_replay))]
+    #[tactic(auto, using(dr_state::proofs::Valid::fits_state))]
     pub fn append(&mut self, e: Event) -> Result<(), Memory>
         requires fits { FitsLine e }
         requires follows { MayFollow self.old.guest self.old.past e }
@@ -78,11 +81,11 @@ impl Log {
         ensures err { OnErr result (self.new.past ≡ self.old.past) }
         ensures guest { self.new.guest ≡ self.old.guest }
     {
-        let _few = self.history.len();
+        let _recall_few = self.history.len();
         let pages = copied_pages(self.alloc, &e)?;
         self.history.reserve(1)?;
-        self.replay.make_room(&self.guest, &e)?;
-        self.replay.take(&self.guest, &e, pages);
+        self.state.make_room(&self.guest, &e)?;
+        self.state.take(&self.guest, &e, pages);
         self.history.push_kept(e);
         Ok(())
     }
@@ -105,7 +108,7 @@ impl Log {
         ensures pages { self.new.room.pages ≡ self.old.room.pages }
         ensures ok { OnOk result (HasEntry v self.new.room) }
     {
-        self.replay.make_entry_room(v)
+        self.state.make_entry_room(v)
     }
 
     /// Room for a page that a reset closes. An `Err` changes neither guest nor history.
@@ -115,7 +118,7 @@ impl Log {
         ensures events { self.new.room.events ≡ self.old.room.events }
         ensures ok { OnOk result (1 ≤ self.new.room.closing) }
     {
-        self.replay.make_closing_room()
+        self.state.make_closing_room()
     }
 
     /// Memory of its own for a page. An `Err` changes neither guest nor history.
@@ -127,11 +130,11 @@ impl Log {
         ensures entries { self.new.room.entries ≡ self.old.room.entries }
         ensures ok { OnOk result (has_page page self.new.room ≡ true) }
     {
-        self.replay.make_page_room(page)
+        self.state.make_page_room(page)
     }
 
     /// Takes an event that breaks no rule, into the room that was made for it. It isn't judged.
-    #[tactic(auto, using(dr_state::proofs::Valid::can_replay))]
+    #[tactic(auto, using(dr_state::proofs::Valid::fits_state))]
     pub fn take(&mut self, e: Event)
         requires fits { FitsLine e }
         requires follows { MayFollow self.old.guest self.old.past e }
@@ -142,15 +145,15 @@ impl Log {
         ensures events { self.old.room.events ≤ self.new.room.events + 1 }
         ensures pages { self.new.room.pages ≡ self.old.room.pages }
     {
-        let _few = self.history.len();
+        let _recall_few = self.history.len();
         let none = Listed::new(self.alloc);
-        self.replay.take(&self.guest, &e, none);
+        self.state.take(&self.guest, &e, none);
         self.history.push_kept(e);
     }
 
-    /// Takes an answer that breaks no rule, into the room that was made, with a copy of its pages. It isn't
-    /// judged.
-    #[tactic(auto, using(dr_state::proofs::Valid::can_replay))]
+    /// Takes an answer that breaks no rule, into the room that was made, with a copy of its pages.
+    /// It isn't judged.
+    #[tactic(auto, using(dr_state::proofs::Valid::fits_state))]
     pub fn answer(&mut self, r: u32, at: u64, pages: PageList, copy: PageList)
         requires copy { copy ≡ pages }
         requires small { All (λ page. page < 2 ^ 32) pages }
@@ -160,22 +163,22 @@ impl Log {
         ensures guest { self.new.guest ≡ self.old.guest }
         ensures events { self.old.room.events ≤ self.new.room.events + 1 }
     {
-        let _few = self.history.len();
+        let _recall_few = self.history.len();
         let e = Event::Synced { r, at, pages };
-        self.replay.take(&self.guest, &e, copy);
+        self.state.take(&self.guest, &e, copy);
         self.history.push_kept(e);
     }
 
     /// What has happened is legal so far, for a guest within the limits.
-    pub fn is_legal(&self)
+    pub fn recall_legal(&self)
         ensures legal { IsLegalSoFar self.now.guest self.now.past }
         ensures valid { IsValid self.now.guest }
     {
-        let _alloc = &self.alloc;
+        let _recall_alloc = &self.alloc;
     }
 
     /// The guest.
-    #[tactic(auto, using(dr_state::proofs::Valid::can_replay))]
+    #[tactic(auto, using(dr_state::proofs::Valid::fits_state))]
     pub fn guest(&self) -> &Guest
         ensures is { result.now ≡ self.now.guest }
         ensures valid { IsValid result.now }
@@ -190,7 +193,7 @@ impl Log {
         ensures legal { IsLegalSoFar self.now.guest result.now.past }
         ensures fit { All FitsLine result.now.past }
     {
-        self.history.fits_lines();
+        self.history.recall_lines();
         &self.history
     }
 

@@ -4,7 +4,7 @@ ghost use Rattle.dr_types.specs.Scripts.{vcpu_count};
 ghost use Rattle.dr_types.specs.Validity.{IsValid};
 ghost use Rattle.dr_history.specs.Execution.{ops};
 ghost use Rattle.dr_history.specs.Lines.{FitsLine};
-ghost use Rattle.dr_may.specs.Operations.{op_event, page_or_zero, value_at};
+ghost use Rattle.dr_event_law.specs.Operations.{op_event, page_or_zero, value_at};
 ghost use Rattle.dr_script.specs.Fits.{IsOpOrHalt};
 
 use crate::log::Log;
@@ -26,7 +26,7 @@ fn filled_page(guest: &Guest, gfn: u64) -> u32
 }
 
 /// The value that an op loads from an address.
-#[tactic(auto, using(dr_turns::proofs::Operations::lies_in_one_page, crate::proofs::Limits::value_is))]
+#[tactic(auto, using(crate::proofs::Used::for_value_loaded))]
 fn value_loaded(log: &Log, addr: u64) -> u64
     requires { IsOpOrHalt log.now.guest.slots (Op.R addr) }
     ensures { result ≡ value_at log.now.guest log.now.past addr }
@@ -37,12 +37,12 @@ fn value_loaded(log: &Log, addr: u64) -> u64
 /// What a vCPU's next op becomes.
 impl Log {
     /// How many ops a vCPU has executed, as the number of its next one.
-    #[tactic(auto, using(dr_turns::proofs::Starting::few_ops))]
+    #[tactic(auto, using(dr_turns_law::proofs::Starting::few_ops))]
     pub fn next_number(&self, v: u32) -> u32
         requires { v < vcpu_count self.now.guest }
         ensures { result ≡ ops v self.now.past }
     {
-        self.is_legal();
+        self.recall_legal();
         self.ops(v) as u32
     }
 

@@ -8,11 +8,11 @@ ghost use Rattle.dr_history.specs.Protection.{closing};
 ghost use Rattle.dr_history.specs.Rounds.{is_reset_in};
 ghost use Rattle.dr_history.specs.Vcpus.{all_paced, some_kicked};
 ghost use Rattle.dr_history.specs.Rules.{flush_has_cause, starts_paced};
-ghost use Rattle.dr_state.specs.Whole.{IsReplay};
+ghost use Rattle.dr_state.specs.Whole.{IsStateOf};
 ghost use Rattle.dr_log.specs.Tests.{row_paced, row_paced_recently, row_kicked, row_covered};
 
 use dr_history::Event;
-use dr_state::{Replay, Vcpu};
+use dr_state::{State, Vcpu};
 use dr_types::Guest;
 
 fn rows_paced(rows: &[Vcpu], pace: u32) -> bool
@@ -26,11 +26,11 @@ fn rows_paced(rows: &[Vcpu], pace: u32) -> bool
 }
 
 /// Each vCPU has executed enough, or has halted.
-pub fn all_paced(guest: &Guest, replay: &Replay) -> bool
-    ensures { (past : List Event) → IsReplay guest.now past replay.now
+pub fn all_paced(guest: &Guest, state: &State) -> bool
+    ensures { (past : List Event) → IsStateOf guest.now past state.now
         → result ≡ all_paced guest.now past past }
 {
-    rows_paced(replay.vcpus.as_slice(), guest.settings.pace)
+    rows_paced(state.vcpus.as_slice(), guest.settings.pace)
 }
 
 fn rows_paced_recently(rows: &[Vcpu], pace: u32) -> bool
@@ -44,11 +44,11 @@ fn rows_paced_recently(rows: &[Vcpu], pace: u32) -> bool
 }
 
 /// Each vCPU has executed enough since the last Asked, or has halted.
-pub fn all_paced_recently(guest: &Guest, replay: &Replay) -> bool
-    ensures { (past : List Event) → IsReplay guest.now past replay.now
+pub fn all_paced_recently(guest: &Guest, state: &State) -> bool
+    ensures { (past : List Event) → IsStateOf guest.now past state.now
         → result ≡ all_paced guest.now (since is_asked past) past }
 {
-    rows_paced_recently(replay.vcpus.as_slice(), guest.settings.pace)
+    rows_paced_recently(state.vcpus.as_slice(), guest.settings.pace)
 }
 
 fn rows_kicked(rows: &[Vcpu]) -> bool
@@ -62,11 +62,11 @@ fn rows_kicked(rows: &[Vcpu]) -> bool
 }
 
 /// Some vCPU is kicked.
-pub fn some_kicked(guest: &Guest, replay: &Replay) -> bool
-    ensures { (past : List Event) → IsReplay guest.now past replay.now
+pub fn some_kicked(guest: &Guest, state: &State) -> bool
+    ensures { (past : List Event) → IsStateOf guest.now past state.now
         → result ≡ some_kicked guest.now past }
 {
-    rows_kicked(replay.vcpus.as_slice())
+    rows_kicked(state.vcpus.as_slice())
 }
 
 fn rows_covered(rows: &[Vcpu]) -> bool
@@ -80,17 +80,17 @@ fn rows_covered(rows: &[Vcpu]) -> bool
 }
 
 /// Each entry that was opened before the last Asked is reset.
-pub fn all_covered(guest: &Guest, replay: &Replay) -> bool
-    ensures { (past : List Event) → IsReplay guest.now past replay.now
+pub fn all_covered(guest: &Guest, state: &State) -> bool
+    ensures { (past : List Event) → IsStateOf guest.now past state.now
         → result ≡ list_all (is_reset_in past) (before is_asked past) }
 {
-    rows_covered(replay.vcpus.as_slice())
+    rows_covered(state.vcpus.as_slice())
 }
 
 /// Some page is closing.
-pub fn some_closing(guest: &Guest, replay: &Replay) -> bool
-    ensures { (past : List Event) → IsReplay guest.now past replay.now
+pub fn some_closing(guest: &Guest, state: &State) -> bool
+    ensures { (past : List Event) → IsStateOf guest.now past state.now
         → result ≡ list_any (λ page. closing page past) (below (page_count guest.now)) }
 {
-    replay.protection.closing.any()
+    state.protection.closing.any()
 }

@@ -12,7 +12,7 @@ use crate::answers::{are_dirty, dirty_numbers};
 use crate::log::Log;
 use crate::memory::loaded_at;
 use crate::paces::some_closing;
-use dr_bytes::PageBytes;
+use dr_memory::PageBytes;
 use dr_types::{Memory, PageList};
 use std::alloc::Global;
 
@@ -22,7 +22,7 @@ impl Log {
     pub fn pages(&self) -> u32
         ensures { result ≡ page_count self.now.guest }
     {
-        self.replay.protection.permissions.pages()
+        self.state.protection.permissions.pages()
     }
 
     /// A page may be written.
@@ -30,7 +30,7 @@ impl Log {
         requires { page < page_count self.now.guest }
         ensures { result ≡ writable page self.now.past }
     {
-        self.replay.protection.is_writable(page)
+        self.state.protection.is_writable(page)
     }
 
     /// A vCPU has its permission to write a page.
@@ -39,7 +39,7 @@ impl Log {
         requires page { page < page_count self.now.guest }
         ensures { result ≡ cached v page self.now.past }
     {
-        self.replay.protection.is_cached(v, page)
+        self.state.protection.is_cached(v, page)
     }
 
     /// The destination lacks a page.
@@ -47,7 +47,7 @@ impl Log {
         requires { page < page_count self.now.guest }
         ensures { result ≡ dirty page self.now.past }
     {
-        self.replay.protection.is_dirty(page)
+        self.state.protection.is_dirty(page)
     }
 
     /// The pages that the destination lacks, rising. An `Err` comes for want of memory alone.
@@ -56,14 +56,14 @@ impl Log {
         ensures small { IfOk result (λ pages. All (λ page. page < 2 ^ 32) pages) }
         ensures few { IfOk result (λ pages. length pages ≤ page_count self.now.guest) }
     {
-        dirty_numbers(&self.guest, &self.replay, alloc)
+        dirty_numbers(&self.guest, &self.state, alloc)
     }
 
     /// These are the pages that the destination lacks, rising.
     pub fn are_dirty(&self, pages: &[u32]) -> bool
         ensures { result ≡ same_numbers pages.now (dirty_pages self.now.guest self.now.past) }
     {
-        are_dirty(&self.guest, &self.replay, pages)
+        are_dirty(&self.guest, &self.state, pages)
     }
 
     /// Some page was reset and waits for a flush.
@@ -71,7 +71,7 @@ impl Log {
         ensures { let past = self.now.past in
             result ≡ list_any (λ page. closing page past) (below (page_count self.now.guest)) }
     {
-        some_closing(&self.guest, &self.replay)
+        some_closing(&self.guest, &self.state)
     }
 
     /// The bytes of a page.
@@ -79,7 +79,7 @@ impl Log {
         requires { page < page_count self.now.guest }
         ensures { result.now ≡ page_bytes self.now.guest page self.now.past }
     {
-        self.replay.page(page)
+        self.state.page(page)
     }
 
     /// Copies the bytes of a page.
@@ -87,7 +87,7 @@ impl Log {
         requires { page < page_count self.now.guest }
         ensures { into.new ≡ page_bytes self.now.guest page self.now.past }
     {
-        self.replay.copy_page(page, into);
+        self.state.copy_page(page, into);
     }
 
     /// The eight bytes of a page from a place on, the least first.
@@ -96,7 +96,7 @@ impl Log {
         requires within { at < 4096 }
         ensures { result ≡ loaded (page_bytes self.now.guest page self.now.past) at }
     {
-        self.replay.load(page, at)
+        self.state.load(page, at)
     }
 
     /// The value that a load of 8 bytes at an address gives, the least byte first.
@@ -105,6 +105,6 @@ impl Log {
         ensures { IfSome (page_of_address self.now.guest address) (λ page.
             result ≡ loaded (page_bytes self.now.guest page self.now.past) (address % 4096)) }
     {
-        loaded_at(&self.guest, &self.replay, address)
+        loaded_at(&self.guest, &self.state, address)
     }
 }

@@ -1,17 +1,19 @@
-ghost use Rattle.std.specs.Prelude.{◌≡◌, ◌<◌, ◌==◌, ◌&&◌, nat_le, if◌then◌else◌, List, slice_get, length, None};
+ghost use Rattle.std.specs.Prelude.{◌≡◌, ◌<◌, ◌==◌, ◌&&◌, nat_le, if◌then◌else◌, List, slice_get};
+ghost use Rattle.std.specs.Prelude.{length, None};
 ghost use Rattle.dr_history.specs.declared.event.Event.{Event};
 ghost use Rattle.dr_history.specs.Lookback.{since, is_number};
 ghost use Rattle.dr_history.specs.Kinds.{is_synced};
 ghost use Rattle.dr_history.specs.Rounds.{last_synced, few_answered, round_copied, is_next_copy};
-ghost use Rattle.dr_history.specs.Rules.{asks_in_turn, copies_next, stops_when_few, switches_when_copied};
-ghost use Rattle.dr_law.specs.Copies.{copies, pages_of};
+ghost use Rattle.dr_history.specs.Rules.{asks_in_turn, copies_next, stops_when_few};
+ghost use Rattle.dr_history.specs.Rules.{switches_when_copied};
+ghost use Rattle.dr_history_law.specs.Copies.{copies, pages_of};
 ghost use Rattle.dr_state.specs.Rounds.{rounds_of};
-ghost use Rattle.dr_state.specs.Whole.{IsReplay};
-ghost use Rattle.dr_turns.specs.Due.{left, round_of};
+ghost use Rattle.dr_state.specs.Whole.{IsStateOf};
+ghost use Rattle.dr_turns.specs.Due.{page_to_copy, round_of};
 ghost use Rattle.dr_log.specs.Answered.{answered_count};
 
 use dr_history::Event;
-use dr_state::{Answer, Replay, Rounds};
+use dr_state::{Answer, Rounds, State};
 use dr_types::Guest;
 
 /// So many copies are all of an open round.
@@ -22,12 +24,12 @@ fn is_copied(answer: &Answer, copies: u64) -> bool
 }
 
 /// The last answer opened a round, each page of which is copied since.
-pub fn round_copied(guest: &Guest, replay: &Replay) -> bool
-    ensures { (past : List Event) → IsReplay guest.now past replay.now
+pub fn round_copied(guest: &Guest, state: &State) -> bool
+    ensures { (past : List Event) → IsStateOf guest.now past state.now
         → result ≡ round_copied guest.now (last_synced past) (since is_synced past) }
 {
-    match &replay.rounds.answer {
-        Some(answer) => is_copied(answer, replay.rounds.copies),
+    match &state.rounds.answer {
+        Some(answer) => is_copied(answer, state.rounds.copies),
         None => false,
     }
 }
@@ -48,23 +50,23 @@ fn is_copied_next(answer: &Answer, copies: u64, r: u32, page: u32) -> bool
 }
 
 /// The page is the next that the open round of this number has to copy.
-pub fn is_next_copy(guest: &Guest, replay: &Replay, r: u32, page: u32) -> bool
-    ensures { (past : List Event) → IsReplay guest.now past replay.now
+pub fn is_next_copy(guest: &Guest, state: &State, r: u32, page: u32) -> bool
+    ensures { (past : List Event) → IsStateOf guest.now past state.now
         → result ≡ is_next_copy guest.now r page (last_synced past) (since is_synced past) }
 {
-    match &replay.rounds.answer {
-        Some(answer) => is_copied_next(answer, replay.rounds.copies, r, page),
+    match &state.rounds.answer {
+        Some(answer) => is_copied_next(answer, state.rounds.copies, r, page),
         None => false,
     }
 }
 
 /// The page of the last answer that is to be copied next.
-pub fn next_copied(guest: &Guest, replay: &Replay) -> Option<u32>
-    ensures { (past : List Event) → IsReplay guest.now past replay.now
+pub fn next_copied(guest: &Guest, state: &State) -> Option<u32>
+    ensures { (past : List Event) → IsStateOf guest.now past state.now
         → result ≡ slice_get (pages_of (last_synced past)) (copies past) }
 {
-    match &replay.rounds.answer {
-        Some(answer) => at(answer.pages.as_slice(), replay.rounds.copies as usize),
+    match &state.rounds.answer {
+        Some(answer) => at(answer.pages.as_slice(), state.rounds.copies as usize),
         None => None,
     }
 }
@@ -81,33 +83,33 @@ fn left_at(answer: &Answer, copies: u64) -> Option<u32>
 }
 
 /// The page of the open round that is to be copied next.
-pub fn next_left(guest: &Guest, replay: &Replay) -> Option<u32>
-    ensures { (past : List Event) → IsReplay guest.now past replay.now
-        → result ≡ left guest.now past }
+pub fn next_to_copy(guest: &Guest, state: &State) -> Option<u32>
+    ensures { (past : List Event) → IsStateOf guest.now past state.now
+        → result ≡ page_to_copy guest.now past }
 {
-    match &replay.rounds.answer {
-        Some(answer) => left_at(answer, replay.rounds.copies),
+    match &state.rounds.answer {
+        Some(answer) => left_at(answer, state.rounds.copies),
         None => None,
     }
 }
 
 /// The number of the last answer.
-pub fn answered_round(guest: &Guest, replay: &Replay) -> u32
-    ensures { (past : List Event) → IsReplay guest.now past replay.now
+pub fn answered_round(guest: &Guest, state: &State) -> u32
+    ensures { (past : List Event) → IsStateOf guest.now past state.now
         → result ≡ round_of (last_synced past) }
 {
-    match &replay.rounds.answer {
+    match &state.rounds.answer {
         Some(answer) => answer.round,
         None => 0,
     }
 }
 
 /// How many pages the last answer has.
-pub fn answered_count(guest: &Guest, replay: &Replay) -> Option<u64>
-    ensures { (past : List Event) → IsReplay guest.now past replay.now
+pub fn answered_count(guest: &Guest, state: &State) -> Option<u64>
+    ensures { (past : List Event) → IsStateOf guest.now past state.now
         → result ≡ answered_count (last_synced past) }
 {
-    match &replay.rounds.answer {
+    match &state.rounds.answer {
         Some(answer) => Some(answer.pages.len() as u64),
         None => None,
     }

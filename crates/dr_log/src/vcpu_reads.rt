@@ -23,14 +23,14 @@ impl Log {
     pub fn vcpus(&self) -> u32
         ensures { result ≡ vcpu_count self.now.guest }
     {
-        self.replay.protection.permissions.vcpus()
+        self.state.protection.permissions.vcpus()
     }
 
     fn row(&self, v: u32) -> Vcpu
         requires { v < vcpu_count self.now.guest }
         ensures { result ≡ row_of self.now.past v }
     {
-        self.replay.vcpus.row(v)
+        self.state.vcpus.row(v)
     }
 
     /// The operation that a vCPU executes next.
@@ -38,7 +38,7 @@ impl Log {
         requires { v < vcpu_count self.now.guest }
         ensures { result ≡ operation self.now.guest v (ops v self.now.past) }
     {
-        self.replay.running.op(v)
+        self.state.running.op(v)
     }
 
     /// A vCPU's register.
@@ -46,7 +46,7 @@ impl Log {
         requires { v < vcpu_count self.now.guest }
         ensures { result ≡ acc self.now.guest v self.now.past }
     {
-        self.replay.running.register(v)
+        self.state.running.register(v)
     }
 
     /// How many operations a vCPU has executed.
@@ -135,7 +135,7 @@ impl Log {
         requires { v < vcpu_count self.now.guest }
         ensures { result ≡ page_of_entry v k self.now.past }
     {
-        self.replay.entries.page(v, k)
+        self.state.entries.page(v, k)
     }
 
     /// An entry of a vCPU is deposited.
@@ -143,7 +143,7 @@ impl Log {
         requires { v < vcpu_count self.now.guest }
         ensures { result ≡ list_any (deposits_entry v k) self.now.past }
     {
-        is_deposited(&self.guest, &self.replay, v, k)
+        is_deposited(&self.guest, &self.state, v, k)
     }
 
     /// Some entry of a vCPU from one number up to another is deposited.
@@ -152,14 +152,14 @@ impl Log {
         requires order { from < to }
         ensures { result ≡ list_any (deposits_some v from to) self.now.past }
     {
-        some_deposited(&self.guest, &self.replay, v, from, to)
+        some_deposited(&self.guest, &self.state, v, from, to)
     }
 
     /// Each vCPU has executed enough, or has halted.
     pub fn all_paced(&self) -> bool
         ensures { result ≡ all_paced self.now.guest self.now.past self.now.past }
     {
-        all_paced(&self.guest, &self.replay)
+        all_paced(&self.guest, &self.state)
     }
 
     /// Each vCPU has executed enough since the last Asked, or has halted.
@@ -167,14 +167,14 @@ impl Log {
         ensures { let past = self.now.past in
             result ≡ all_paced self.now.guest (since is_asked past) past }
     {
-        all_paced_recently(&self.guest, &self.replay)
+        all_paced_recently(&self.guest, &self.state)
     }
 
     /// Some vCPU was in the guest at the last Asked, and hasn't left it since.
     pub fn some_kicked(&self) -> bool
         ensures { result ≡ some_kicked self.now.guest self.now.past }
     {
-        some_kicked(&self.guest, &self.replay)
+        some_kicked(&self.guest, &self.state)
     }
 
     /// Each entry that was opened before the last Asked is reset.
@@ -182,7 +182,7 @@ impl Log {
         ensures { let past = self.now.past in
             result ≡ list_all (is_reset_in past) (before is_asked past) }
     {
-        all_covered(&self.guest, &self.replay)
+        all_covered(&self.guest, &self.state)
     }
 
     /// A vCPU's throttle over all answers so far, where there is a quota.
@@ -191,6 +191,6 @@ impl Log {
         requires quota { 1 ≤ self.now.guest.settings.quota }
         ensures { result ≡ throttle self.now.guest v self.now.past }
     {
-        self.replay.throttles.of(v)
+        self.state.throttles.of(v)
     }
 }

@@ -9,7 +9,7 @@ use Rattle.dr_history.specs.Kinds.{is_asked}
 use Rattle.dr_history.specs.Lookback.{before, since}
 use Rattle.dr_history.specs.Vcpus.{paced, kicked}
 use Rattle.dr_turns.specs.Firsts.{first_below, first_unpaced, first_kicked, first_unreset}
-use Rattle.dr_reaps.proofs.Firsts.{still_none, first_found}
+use Rattle.dr_turns_law.proofs.Firsts.{still_none, first_found}
 
 -- one more that is paced
 pub one_more_paced : (guest : Guest) (past : List Event) (v : ℕ) → first_below (λ u. not (paced guest u past past)) v ≡ None → paced guest v past past ≡ true → first_below (λ u. not (paced guest u past past)) (v + 1) ≡ None

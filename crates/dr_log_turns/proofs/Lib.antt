@@ -1,5 +1,6 @@
 pub mod Rooms
 pub mod Least
-pub mod Stepping
+pub mod Advancing
 pub mod Reading
 pub mod Throttling
+pub mod Used

@@ -14,10 +14,10 @@ use Rattle.dr_history.specs.declared.event.Event.{Event}
 use Rattle.dr_history.specs.declared.event.Event.TheVariants.{Write, Paint}
 use Rattle.dr_history.specs.Execution.{ops}
 use Rattle.dr_history.specs.Lookback.{is_number}
-use Rattle.dr_may.specs.May.{WritesNext}
-use Rattle.dr_may.specs.Operations.{op_event, op_page, OpFits}
+use Rattle.dr_event_law.specs.May.{WritesNext}
+use Rattle.dr_event_law.specs.Operations.{op_event, op_page, OpFits}
 use Rattle.dr_log.specs.Room.{Room, has_page, HasRoomFor}
-use Rattle.dr_turns.proofs.Operations.{op_in_page}
+use Rattle.dr_turns_law.proofs.Operations.{op_in_page}
 
 at_place : (page : ℕ) (room : Room) (place : Option ℕ) → is_number page place ≡ true → has_page page room ≡ true → IfSome place (λ q. has_page q room ≡ true)
 at_place page room None n h = absurd (false≢true n)

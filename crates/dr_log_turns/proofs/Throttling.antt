@@ -13,14 +13,14 @@ use Rattle.dr_history.specs.Entries.{opens}
 use Rattle.dr_history.specs.Rules.{vcpu_of_op}
 use Rattle.dr_history.specs.Throttles.{throttle}
 use Rattle.dr_history.specs.Vcpus.{stopped}
-use Rattle.dr_law.specs.Room.{unpushed}
+use Rattle.dr_history_law.specs.Room.{unpushed}
 use Rattle.dr_turns.specs.Buffers.{pushed_behind, all_pushed}
 use Rattle.dr_turns.specs.Due.{advanced, throttled_behind}
 use Rattle.dr_turns.specs.declared.answers.Advance.{Advance}
 use Rattle.dr_turns.specs.declared.answers.Advance.TheVariants as advance
-use Rattle.dr_steps.proofs.Cases.{IsWait, advanced_cases}
+use Rattle.dr_turns_law.proofs.Cases.{IsWait, advanced_cases}
 use Rattle.dr_turns.specs.Turns.{executed, after_op, after_exit}
-use Rattle.dr_turns.proofs.Executing.{by_executed}
+use Rattle.dr_turns_law.proofs.Executing.{by_executed}
 use Rattle.dr_log_turns.specs.Throttled.{last_throttle, AreThrottles, SameThrottles, IsNoThrottle, AreTaken, is_answer, throttles_all, FollowThrottles}
 
 by_test : (b : Bool) (P : Type 0) → (b ≡ true → P) → (b ≡ false → P) → P
@@ -136,7 +136,7 @@ stop_stays : (guest : Guest) (n : ℕ) (past : List Event) → stopped (throttle
 stop_stays guest zero past = refl
 stop_stays guest (suc n) past = stop_stays guest n past
 
--- what a step leaves of the last throttles: those of an answer are the formula's, where there is a quota and the guest
+-- what an advance leaves of the last throttles: those of an answer are the formula's, where there is a quota and the guest
 -- runs; else each stays
 record Leaves (guest : Guest) (old : List Event) (p : Advance × List Event) : Type 0 where
   stay : throttles_all guest p.1 p.0 ≡ false → SameThrottles old p.1
@@ -173,8 +173,8 @@ answer_case false guest old r n now is =
       taken = λ h. absurd (true≢false (sym h ∙ is));
     }
 
-step_leaves : (guest : Guest) (now : ℕ) (old : List Event) → Leaves guest old (advanced guest now old)
-step_leaves guest now old =
+advance_leaves : (guest : Guest) (now : ℕ) (old : List Event) → Leaves guest old (advanced guest now old)
+advance_leaves guest now old =
     advanced_cases (Leaves guest old) guest now old (record {
       waits = λ a is. no_answer guest old (a, old) (wait_answers_none a is) (none_since old);
       starts = λ due. no_answer guest old _ refl (record { each = λ v. refl });
@@ -187,17 +187,17 @@ step_leaves guest now old =
       asks_later = λ on runs many more some paced. no_answer guest old _ refl (record { each = λ v. refl });
     })
 
-follow_case : (test : Bool) (guest : Guest) (old new : List Event) (step : Advance) (before after : List ℕ) → throttles_all guest new step ≡ test
-    → AreThrottles guest old before → Leaves guest old (step, new) → FollowThrottles guest new step before after → AreThrottles guest new after
-follow_case true guest old new step before after is are leaves follow =
+follow_case : (test : Bool) (guest : Guest) (old new : List Event) (due : Advance) (before after : List ℕ) → throttles_all guest new due ≡ test
+    → AreThrottles guest old before → Leaves guest old (due, new) → FollowThrottles guest new due before after → AreThrottles guest new after
+follow_case true guest old new due before after is are leaves follow =
     let taken : AreTaken guest new (vcpu_count guest) after = follow.taken is in
     record { count = taken.count; each = λ v lt. taken.each v lt ∙ sym (leaves.taken is v lt) }
-follow_case false guest old new step before after is are leaves follow =
+follow_case false guest old new due before after is are leaves follow =
     rw (follow.stay is) (throttles_stay guest old new before are (leaves.stay is))
 
--- the lists go on through a step of the migrator
-pub throttles_step : (guest : Guest) (now : ℕ) (old new : List Event) (step : Advance) (before after : List ℕ) → AreThrottles guest old before
-    → step ≡ (advanced guest now old).0 → new ≡ (advanced guest now old).1 → FollowThrottles guest new step before after → AreThrottles guest new after
-throttles_step guest now old new step before after are answer past follow =
-    let leaves : Leaves guest old (step, new) = rw (answer, past) (step_leaves guest now old) in
-    follow_case (throttles_all guest new step) guest old new step before after refl are leaves follow
+-- the lists go on through an advance
+pub throttles_advance : (guest : Guest) (now : ℕ) (old new : List Event) (due : Advance) (before after : List ℕ) → AreThrottles guest old before
+    → due ≡ (advanced guest now old).0 → new ≡ (advanced guest now old).1 → FollowThrottles guest new due before after → AreThrottles guest new after
+throttles_advance guest now old new due before after are answer past follow =
+    let leaves : Leaves guest old (due, new) = rw (answer, past) (advance_leaves guest now old) in
+    follow_case (throttles_all guest new due) guest old new due before after refl are leaves follow

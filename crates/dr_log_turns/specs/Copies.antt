@@ -1,4 +1,4 @@
--- What a step of the migrator puts into a page's bytes.
+-- What an advance puts into a page's bytes.
 use Rattle.std.specs.Prelude.{◌≡◌, ℕ, false, List, ◌∷◌}
 use Rattle.std.specs.List.{list_any}
 use Rattle.dr_types.specs.declared.guest.Guest.{Guest}
@@ -11,7 +11,8 @@ use Rattle.dr_turns.specs.Between.{AtTurnsEnd}
 use Rattle.dr_turns.specs.declared.answers.Advance.{Advance}
 use Rattle.dr_turns.specs.declared.answers.Advance.TheVariants.{Copied}
 
--- the bytes after a step that gave this answer: those of the page that was copied, or what they were before
+-- the bytes after an advance that gave this answer: those of the page that was copied, or what they
+-- were before
 abbrev pub copied_into : Guest → List Event → Advance → List ℕ → List ℕ
 copied_into guest past (Copied r page) bytes = page_bytes guest page past
 copied_into guest past answer bytes = bytes

@@ -1,5 +1,6 @@
 -- How long each vCPU was last throttled.
-use Rattle.std.specs.Prelude.{◌≡◌, ◌<◌, ℕ, Bool, true, false, not, ◌==◌, ◌&&◌, nat_le, if◌then◌else◌, List, [], ◌∷◌, length, slice_index}
+use Rattle.std.specs.Prelude.{◌≡◌, ◌<◌, ℕ, Bool, true, false, not, ◌==◌, ◌&&◌, nat_le}
+use Rattle.std.specs.Prelude.{if◌then◌else◌, List, [], ◌∷◌, length, slice_index}
 use Rattle.dr_types.specs.declared.guest.Guest.{Guest}
 use Rattle.dr_types.specs.Scripts.{vcpu_count}
 use Rattle.dr_history.specs.declared.event.Event.{Event}
@@ -37,13 +38,16 @@ pub record AreTaken (guest : Guest) (past : List Event) (n : ℕ) (throttles : L
 -- a round was answered
 abbrev pub is_answer : Advance → Bool
 is_answer (Answered r pages) = true
-is_answer step = false
+is_answer due = false
 
--- the step throttled each vCPU: it answered a round, there is a quota, and the guest runs
+-- the advance throttled each vCPU: it answered a round, there is a quota, and the guest runs
 abbrev pub throttles_all : Guest → List Event → Advance → Bool
-throttles_all guest past step = is_answer step && (nat_le 1 guest.settings.quota && not (stopped past))
+throttles_all guest past due =
+    is_answer due && (nat_le 1 guest.settings.quota && not (stopped past))
 
--- the list after a step: what each throttle now is where the step throttled, else what it was
-pub record FollowThrottles (guest : Guest) (past : List Event) (step : Advance) (old new : List ℕ) : Type 0 where
-  pub taken : throttles_all guest past step ≡ true → AreTaken guest past (vcpu_count guest) new
-  pub stay : throttles_all guest past step ≡ false → new ≡ old
+-- the list after an advance: what each throttle now is where the advance throttled, else what it
+-- was
+pub record FollowThrottles (guest : Guest) (past : List Event) (due : Advance)
+    (old new : List ℕ) : Type 0 where
+  pub taken : throttles_all guest past due ≡ true → AreTaken guest past (vcpu_count guest) new
+  pub stay : throttles_all guest past due ≡ false → new ≡ old

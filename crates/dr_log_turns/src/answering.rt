@@ -1,10 +1,12 @@
-ghost use Rattle.std.specs.Prelude.{◌≡◌, ◌<◌, ◌≤◌, ◌+◌, ◌^◌, false, Some, None, All, IfOk, OnOk, OnErr};
+ghost use Rattle.std.specs.Prelude.{◌≡◌, ◌<◌, ◌≤◌, ◌+◌, ◌^◌, false, Some, None, All, IfOk, OnOk};
+ghost use Rattle.std.specs.Prelude.{OnErr};
 ghost use Rattle.dr_types.specs.Scripts.{vcpu_count};
 ghost use Rattle.dr_history.specs.Dirty.{dirty_pages};
 ghost use Rattle.dr_history.specs.Rounds.{unanswered};
 ghost use Rattle.dr_history.specs.Vcpus.{stopped};
 ghost use Rattle.dr_turns.specs.Between.{AtTurnsEnd};
-ghost use Rattle.dr_turns.specs.Due.{answered, answered_behind, flushed_answer, some_closing, throttled_behind};
+ghost use Rattle.dr_turns.specs.Due.{answered, answered_behind, flushed_answer, some_closing};
+ghost use Rattle.dr_turns.specs.Due.{throttled_behind};
 ghost use Rattle.dr_turns.specs.Firsts.{first_kicked, first_unreset};
 ghost use Rattle.dr_log_turns.specs.Copies.{HasAnswered, IsNoCopy};
 
@@ -27,14 +29,14 @@ fn throttle_vcpus(log: &mut Log)
         log.new.past ≡ throttled_behind guest (vcpu_count guest) log.old.past }
 {
     for v in 0..log.vcpus() {
-        log.is_legal();
+        log.recall_legal();
         let us = log.throttle(v).us;
         log.take(Event::Throttled { v, us });
     }
 }
 
-/// Takes the answer of a round, and behind it a throttle for each vCPU, where there is a quota and the
-/// guest runs.
+/// Takes the answer of a round, and behind it a throttle for each vCPU, where there is a quota and
+/// the guest runs.
 fn take_answer(log: &mut Log, r: u32, now: u64, pages: PageList, copy: PageList)
     requires end { AtTurnsEnd log.old.guest log.old.past }
     requires asked { unanswered log.old.past ≡ Some r }
@@ -48,7 +50,7 @@ fn take_answer(log: &mut Log, r: u32, now: u64, pages: PageList, copy: PageList)
     ensures guest { log.new.guest ≡ log.old.guest }
     ensures past { log.new.past ≡ answered_behind log.old.guest r now log.old.past }
 {
-    log.is_legal();
+    log.recall_legal();
     let throttled = log.guest().settings.quota >= 1 && !log.stopped();
     log.answer(r, now, pages, copy);
     if throttled {
@@ -64,7 +66,8 @@ fn answer_flushed(log: &mut Log, alloc: Global, r: u32, now: u64) -> Result<Adva
     requires out { first_kicked log.old.guest log.old.past ≡ None }
     requires reset { first_unreset log.old.guest log.old.past ≡ None }
     ensures answer { IfOk result (λ a. a ≡ (flushed_answer log.old.guest now r log.old.past).0) }
-    ensures past { OnOk result (log.new.past ≡ (flushed_answer log.old.guest now r log.old.past).1) }
+    ensures past { OnOk result (log.new.past
+        ≡ (flushed_answer log.old.guest now r log.old.past).1) }
     ensures quiet { IfOk result IsNoCopy }
     ensures guest { log.new.guest ≡ log.old.guest }
     ensures err { OnErr result (log.new.past ≡ log.old.past) }
@@ -72,7 +75,7 @@ fn answer_flushed(log: &mut Log, alloc: Global, r: u32, now: u64) -> Result<Adva
     if is_closing(log) {
         return Ok(Advance::NotFlushed);
     }
-    let _few = log.guest();
+    let _recall_few = log.guest();
     let pages = log.dirty_pages(alloc)?;
     let copy = pages.clone()?;
     log.reserve(1 + u64::from(log.vcpus()))?;

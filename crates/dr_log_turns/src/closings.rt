@@ -15,7 +15,7 @@ pub fn is_closing(log: &Log) -> bool
 }
 
 /// Drops all permissions that vCPUs have.
-#[tactic(auto, using(dr_reaps::proofs::Flushing::flush_follows))]
+#[tactic(auto, using(dr_turns_law::proofs::Flushing::flush_follows))]
 pub fn flush(log: &mut Log)
     requires end { AtTurnsEnd log.old.guest log.old.past }
     requires closing { some_closing log.old.guest log.old.past ≡ true }
@@ -23,6 +23,6 @@ pub fn flush(log: &mut Log)
     ensures past { log.new.past ≡ Event.Flushed ∷ log.old.past }
     ensures guest { log.new.guest ≡ log.old.guest }
 {
-    log.is_legal();
+    log.recall_legal();
     log.take(Event::Flushed);
 }

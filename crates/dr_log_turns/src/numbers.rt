@@ -2,12 +2,13 @@ ghost use Rattle.std.specs.Prelude.{◌≡◌, ◌<◌, ◌≤◌, ℕ, true, fa
 ghost use Rattle.std.specs.List.{list_any};
 ghost use Rattle.dr_types.specs.Scripts.{vcpu_count};
 ghost use Rattle.dr_history.specs.Rules.{deposits_entry};
-ghost use Rattle.dr_reaps.specs.Deposits.{first_twice, next_deposited, FirstDeposited, NoneFrom, SomeFrom, HasGap};
+ghost use Rattle.dr_turns_law.specs.Deposits.{first_twice, next_deposited, FirstDeposited};
+ghost use Rattle.dr_turns_law.specs.Deposits.{NoneFrom, SomeFrom, HasGap};
 
 use dr_log::Log;
 
 /// The least number from one up to another that was deposited before.
-#[tactic(auto, using(dr_reaps::proofs::Depositing::twice_none, dr_reaps::proofs::Depositing::twice_more, dr_reaps::proofs::Depositing::twice_here))]
+#[tactic(auto, using(crate::proofs::Used::for_first_twice))]
 pub fn first_twice(log: &Log, v: u32, from: u64, to: u64) -> Option<u64>
     requires vcpu { v < vcpu_count log.now.guest }
     requires order { from ≤ to }
@@ -22,13 +23,13 @@ pub fn first_twice(log: &Log, v: u32, from: u64, to: u64) -> Option<u64>
 }
 
 /// The least number of a vCPU's entries that isn't deposited.
-#[tactic(auto, using(dr_reaps::proofs::Reach::resets_are_deposited, dr_reaps::proofs::Reach::one_more_deposited, dr_reaps::proofs::Reach::unpushed_undeposited))]
+#[tactic(auto, using(crate::proofs::Used::for_first_missing))]
 fn first_missing(log: &Log, v: u32) -> u64
     requires { v < vcpu_count log.now.guest }
     ensures before { FirstDeposited v result log.now.past }
     ensures here { list_any (deposits_entry v result) log.now.past ≡ false }
 {
-    log.is_legal();
+    log.recall_legal();
     let pushes = log.pushes(v);
     for k in log.resets(v)..pushes {
         if !log.deposited(v, k) {
@@ -39,13 +40,13 @@ fn first_missing(log: &Log, v: u32) -> u64
 }
 
 /// Some entry of a vCPU from this number on is deposited.
-#[tactic(auto, using(dr_reaps::proofs::Reach::some_from, dr_reaps::proofs::Reach::none_from, dr_reaps::proofs::Reach::none_from_pushes))]
+#[tactic(auto, using(crate::proofs::Used::for_some_from))]
 fn some_from(log: &Log, v: u32, n: u64) -> bool
     requires { v < vcpu_count log.now.guest }
     ensures some { result ≡ true → SomeFrom v n log.now.past }
     ensures none { result ≡ false → NoneFrom v n log.now.past }
 {
-    log.is_legal();
+    log.recall_legal();
     let pushes = log.pushes(v);
     if n < pushes {
         log.some_deposited(v, n, pushes)
@@ -54,12 +55,13 @@ fn some_from(log: &Log, v: u32, n: u64) -> bool
     }
 }
 
-/// How many of a vCPU's entries are deposited, where these are its first; `None` where one isn't and a
-/// later one is.
-#[tactic(auto, using(dr_reaps::proofs::Reach::exactly_first, dr_reaps::proofs::Reach::gap_here))]
+/// How many of a vCPU's entries are deposited, where these are its first; `None` where one isn't
+/// and a later one is.
+#[tactic(auto, using(crate::proofs::Used::for_deposited))]
 pub fn deposited(log: &Log, v: u32) -> Option<u64>
     requires { v < vcpu_count log.now.guest }
-    ensures some { IfSome result (λ n. (k : ℕ) → list_any (deposits_entry v k) log.now.past ≡ nat_lt k n) }
+    ensures some { IfSome result (λ n. (k : ℕ)
+        → list_any (deposits_entry v k) log.now.past ≡ nat_lt k n) }
     ensures none { result ≡ None → HasGap v log.now.past }
 {
     let missing = first_missing(log, v);
@@ -71,7 +73,7 @@ pub fn deposited(log: &Log, v: u32) -> Option<u64>
 }
 
 /// The vCPU's next entry to be reset is deposited.
-#[tactic(auto, unfolding(dr_reaps::specs::Deposits::next_deposited))]
+#[tactic(auto, unfolding(dr_turns_law::specs::Deposits::next_deposited))]
 pub fn is_next_deposited(log: &Log, v: u32) -> bool
     requires { v < vcpu_count log.now.guest }
     ensures { result ≡ next_deposited v log.now.past }

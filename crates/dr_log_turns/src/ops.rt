@@ -1,8 +1,9 @@
-ghost use Rattle.std.specs.Prelude.{◌≡◌, ◌<◌, ◌≤◌, ◌+◌, max, Some, None, IfOk, IfErr, OnOk, OnErr, IfSome, true};
+ghost use Rattle.std.specs.Prelude.{◌≡◌, ◌<◌, ◌≤◌, ◌+◌, max, Some, None, IfOk, IfErr, OnOk, OnErr};
+ghost use Rattle.std.specs.Prelude.{IfSome, true};
 ghost use Rattle.dr_types.specs.Scripts.{operation, vcpu_count};
 ghost use Rattle.dr_types.specs.Pages.{soft_limit};
 ghost use Rattle.dr_history.specs.Execution.{ops};
-ghost use Rattle.dr_may.specs.Operations.{op_page};
+ghost use Rattle.dr_event_law.specs.Operations.{op_page};
 ghost use Rattle.dr_log.specs.Room.{HasEntry, has_page};
 ghost use Rattle.dr_turns.specs.Between.{AtTurnsEnd, MayTurn};
 ghost use Rattle.dr_turns.specs.Turns.{refusal, op_step};
@@ -51,7 +52,7 @@ fn refusal(log: &Log, over: bool, v: u32) -> Option<Turn>
 }
 
 /// The op that a vCPU executes next, or why it executes nothing.
-#[tactic(auto, using(dr_turns::proofs::Executing::may_turn))]
+#[tactic(auto, using(dr_turns_law::proofs::Executing::may_turn))]
 pub fn next_op(log: &Log, over: bool, v: u32) -> Result<Op, Turn>
     requires vcpu { v < vcpu_count log.now.guest }
     requires end { AtTurnsEnd log.now.guest log.now.past }
@@ -64,7 +65,7 @@ pub fn next_op(log: &Log, over: bool, v: u32) -> Result<Op, Turn>
         Some(turn) => return Err(turn),
         None => {}
     }
-    log.is_legal();
+    log.recall_legal();
     match log.next_op(v) {
         Some(op) => Ok(op),
         None => unreachable!(),
@@ -92,6 +93,7 @@ pub fn make_room(log: &mut Log, v: u32, op: Op) -> Result<(), Memory>
     ensures page { OnOk result (IfSome (op_page log.old.guest op)
         (λ page. has_page page log.new.room ≡ true)) }
 {
+    // An Opened or Filled, the op itself, and the pushes of a buffer that is full then.
     let events = 2 + full_buffer(log.guest());
     let page = written_page(log.guest(), op);
     log.reserve(events)?;

@@ -36,7 +36,7 @@ fn is_spent(log: &Log) -> bool
     ensures { result ≡ is_spent log.now.guest log.now.past }
 {
     let answered = log.unanswered().is_none();
-    let copied = log.left().is_none();
+    let copied = log.page_to_copy().is_none();
     let runs = !log.switched() && !log.stopped();
     let many = !log.few_answered();
     let asked = u64::from(log.guest().settings.rounds) <= log.asks();

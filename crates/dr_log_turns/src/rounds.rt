@@ -6,22 +6,23 @@ ghost use Rattle.dr_history.specs.Memory.{page_bytes};
 ghost use Rattle.dr_history.specs.Protection.{started};
 ghost use Rattle.dr_history.specs.Rounds.{asks, unanswered, last_synced, few_answered};
 ghost use Rattle.dr_history.specs.Vcpus.{stopped};
-ghost use Rattle.dr_may.specs.May.{MayFollow};
+ghost use Rattle.dr_event_law.specs.May.{MayFollow};
 ghost use Rattle.dr_turns.specs.Between.{AtTurnsEnd};
-ghost use Rattle.dr_turns.specs.Due.{asked, left, round_of, after_stop, after_copies, next_round};
+ghost use Rattle.dr_turns.specs.Due.{asked, page_to_copy, round_of, after_stop, after_copies};
+ghost use Rattle.dr_turns.specs.Due.{next_round};
 ghost use Rattle.dr_log_turns.specs.Copies.{IsNoCopy};
 
 use crate::searches::first_unpaced_recently;
-use dr_bytes::PageBytes;
 use dr_history::Event;
 use dr_log::Log;
+use dr_memory::PageBytes;
 use dr_turns::Advance;
 
 /// Copies the page of the open round that is next.
 pub fn copy(log: &mut Log, page: u32, into: &mut PageBytes) -> Advance
     requires end { AtTurnsEnd log.old.guest log.old.past }
     requires answered { unanswered log.old.past ≡ None }
-    requires left { left log.old.guest log.old.past ≡ Some page }
+    requires page_to_copy { page_to_copy log.old.guest log.old.past ≡ Some page }
     requires events { 1 ≤ log.old.room.events }
     ensures answer { result ≡ Advance.Copied (round_of (last_synced log.old.past)) page }
     ensures past { let r = round_of (last_synced log.old.past) in
@@ -29,7 +30,7 @@ pub fn copy(log: &mut Log, page: u32, into: &mut PageBytes) -> Advance
     ensures into { into.new ≡ page_bytes log.old.guest page log.old.past }
     ensures guest { log.new.guest ≡ log.old.guest }
 {
-    log.is_legal();
+    log.recall_legal();
     let r = log.answered_round();
     log.copy_page(page, into);
     log.take(Event::Copied { r, page });
@@ -45,18 +46,18 @@ fn ask(log: &mut Log) -> Advance
     ensures quiet { IsNoCopy result }
     ensures guest { log.new.guest ≡ log.old.guest }
 {
-    log.is_legal();
+    log.recall_legal();
     let r = log.asks() as u32 + 1;
     log.take(Event::Asked { r });
     Advance::Asked { r }
 }
 
 /// After the stop the last round is asked, and behind its copies the guest switches over.
-#[tactic(auto, using(dr_steps::proofs::Going::switch_follows, dr_steps::proofs::Going::ask_last_follows))]
+#[tactic(auto, using(crate::proofs::Used::for_go_on_stopped))]
 fn go_on_stopped(log: &mut Log) -> Advance
     requires end { AtTurnsEnd log.old.guest log.old.past }
     requires answered { unanswered log.old.past ≡ None }
-    requires left { left log.old.guest log.old.past ≡ None }
+    requires page_to_copy { page_to_copy log.old.guest log.old.past ≡ None }
     requires here { list_any is_switched log.old.past ≡ false }
     requires stopped { stopped log.old.past ≡ true }
     requires events { 1 ≤ log.old.room.events }
@@ -65,7 +66,7 @@ fn go_on_stopped(log: &mut Log) -> Advance
     ensures quiet { IsNoCopy result }
     ensures guest { log.new.guest ≡ log.old.guest }
 {
-    log.is_legal();
+    log.recall_legal();
     if log.asked_since_stop() {
         log.take(Event::Switched);
         Advance::Switched
@@ -75,7 +76,7 @@ fn go_on_stopped(log: &mut Log) -> Advance
 }
 
 /// Stops the guest.
-#[tactic(auto, using(dr_steps::proofs::Going::stop_follows))]
+#[tactic(auto, using(dr_turns_law::proofs::Going::stop_follows))]
 fn stop(log: &mut Log) -> Advance
     requires end { AtTurnsEnd log.old.guest log.old.past }
     requires answered { unanswered log.old.past ≡ None }
@@ -87,18 +88,18 @@ fn stop(log: &mut Log) -> Advance
     ensures past { log.new.past ≡ Event.Stopped ∷ log.old.past }
     ensures guest { log.new.guest ≡ log.old.guest }
 {
-    log.is_legal();
+    log.recall_legal();
     log.take(Event::Stopped);
     Advance::Stopping
 }
 
 /// Asks the next round, where each vCPU is paced since the last one.
-#[tactic(auto, using(dr_steps::proofs::Going::ask_first_follows, dr_steps::proofs::Going::ask_later_follows))]
+#[tactic(auto, using(crate::proofs::Used::for_ask_next))]
 fn ask_next(log: &mut Log) -> Advance
     requires end { AtTurnsEnd log.old.guest log.old.past }
     requires started { started log.old.past ≡ true }
     requires answered { unanswered log.old.past ≡ None }
-    requires left { left log.old.guest log.old.past ≡ None }
+    requires page_to_copy { page_to_copy log.old.guest log.old.past ≡ None }
     requires here { list_any is_switched log.old.past ≡ false }
     requires runs { stopped log.old.past ≡ false }
     requires many { few_answered log.old.guest (last_synced log.old.past) ≡ false }
@@ -109,7 +110,7 @@ fn ask_next(log: &mut Log) -> Advance
     ensures quiet { IsNoCopy result }
     ensures guest { log.new.guest ≡ log.old.guest }
 {
-    log.is_legal();
+    log.recall_legal();
     if log.asks() == 0 {
         return ask(log);
     }
@@ -127,7 +128,7 @@ pub fn go_on(log: &mut Log) -> Advance
     requires end { AtTurnsEnd log.old.guest log.old.past }
     requires started { started log.old.past ≡ true }
     requires answered { unanswered log.old.past ≡ None }
-    requires left { left log.old.guest log.old.past ≡ None }
+    requires page_to_copy { page_to_copy log.old.guest log.old.past ≡ None }
     requires events { 1 ≤ log.old.room.events }
     ensures answer { result ≡ (after_copies log.old.guest log.old.past).0 }
     ensures past { log.new.past ≡ (after_copies log.old.guest log.old.past).1 }

@@ -11,7 +11,7 @@ use dr_log::Log;
 use dr_turns::Advance;
 
 /// Logging begins, where each vCPU is paced.
-#[tactic(auto, using(dr_turns::proofs::Starting::start_follows))]
+#[tactic(auto, using(dr_turns_law::proofs::Starting::start_follows))]
 pub fn begin(log: &mut Log, now: u64) -> Advance
     requires end { AtTurnsEnd log.old.guest log.old.past }
     requires fresh { started log.old.past ≡ false }
@@ -29,7 +29,7 @@ pub fn begin(log: &mut Log, now: u64) -> Advance
             done: log.next_number(v),
         },
         None => {
-            log.is_legal();
+            log.recall_legal();
             log.take(Event::Start { at: now });
             Advance::Started
         }

@@ -45,7 +45,7 @@ impl Throttles {
     }
 
     /// Takes what each vCPU's throttle now is.
-    #[tactic(auto, using(crate::proofs::Throttling::one_taken, crate::proofs::Throttling::none_taken))]
+    #[tactic(auto, using(crate::proofs::Used::for_take_all))]
     fn take_all(&mut self, log: &Log)
         requires count { length self.old ≡ vcpu_count log.now.guest }
         requires quota { 1 ≤ log.now.guest.settings.quota }
@@ -56,13 +56,13 @@ impl Throttles {
         }
     }
 
-    /// Takes the throttles that a step of the migrator made, where it answered a round.
-    pub fn follow(&mut self, log: &Log, step: Advance)
+    /// Takes the throttles that an advance made, where it answered a round.
+    pub fn follow(&mut self, log: &Log, due: Advance)
         requires { length self.old ≡ vcpu_count log.now.guest }
-        ensures { FollowThrottles log.now.guest log.now.past step self.old self.new }
+        ensures { FollowThrottles log.now.guest log.now.past due self.old self.new }
     {
         let throttled = log.guest().settings.quota >= 1 && !log.stopped();
-        match step {
+        match due {
             Advance::Answered { r: _, pages: _ } if throttled => self.take_all(log),
             _ => {}
         }

@@ -1,4 +1,5 @@
-ghost use Rattle.std.specs.Prelude.{◌≡◌, ◌<◌, ◌≤◌, ◌+◌, ◌^◌, ◌∷◌, ◌||◌, not, true, false, Some, None, IfSome};
+ghost use Rattle.std.specs.Prelude.{◌≡◌, ◌<◌, ◌≤◌, ◌+◌, ◌^◌, ◌∷◌, ◌||◌, not, true, false, Some};
+ghost use Rattle.std.specs.Prelude.{None, IfSome};
 ghost use Rattle.dr_types.specs.Pages.{page_count};
 ghost use Rattle.dr_types.specs.Scripts.{operation, vcpu_count};
 ghost use Rattle.dr_history.specs.declared.event.Event.{Event};
@@ -6,8 +7,8 @@ ghost use Rattle.dr_history.specs.Entries.{opens};
 ghost use Rattle.dr_history.specs.Execution.{ops};
 ghost use Rattle.dr_history.specs.Lines.{FitsLine};
 ghost use Rattle.dr_history.specs.Protection.{started, cached, writable};
-ghost use Rattle.dr_may.specs.May.{WritesNext};
-ghost use Rattle.dr_may.specs.Operations.{op_page};
+ghost use Rattle.dr_event_law.specs.May.{WritesNext};
+ghost use Rattle.dr_event_law.specs.Operations.{op_page};
 ghost use Rattle.dr_log.specs.Room.{HasEntry, has_page};
 ghost use Rattle.dr_turns.specs.Between.{MayTurn};
 ghost use Rattle.dr_turns.specs.Turns.{event_behind, executed};
@@ -31,7 +32,7 @@ pub fn written_page(guest: &Guest, op: Op) -> Option<u32>
 }
 
 /// A write that needs no permission.
-#[tactic(auto, using(dr_turns::proofs::Executing::alone_follows, crate::proofs::Rooms::write_has_room))]
+#[tactic(auto, using(crate::proofs::Used::for_write_alone))]
 fn write_alone(log: &mut Log, v: u32, e: Event, page: u32)
     requires turn { MayTurn log.old.guest log.old.past v }
     requires event { WritesNext log.old.guest log.old.past v page e }
@@ -47,7 +48,7 @@ fn write_alone(log: &mut Log, v: u32, e: Event, page: u32)
 }
 
 /// A write to a writable page, behind the vCPU's permission.
-#[tactic(auto, using(dr_turns::proofs::Executing::filled_follows, dr_turns::proofs::Executing::write_follows_filled, crate::proofs::Rooms::write_has_room))]
+#[tactic(auto, using(crate::proofs::Used::for_write_filled))]
 fn write_filled(log: &mut Log, v: u32, e: Event, page: u32)
     requires turn { MayTurn log.old.guest log.old.past v }
     requires event { WritesNext log.old.guest log.old.past v page e }
@@ -66,7 +67,7 @@ fn write_filled(log: &mut Log, v: u32, e: Event, page: u32)
 }
 
 /// A write to a protected page, behind the entry that it opens.
-#[tactic(auto, using(dr_turns::proofs::Executing::opened_follows, dr_turns::proofs::Executing::write_follows_opened, crate::proofs::Rooms::write_has_room))]
+#[tactic(auto, using(crate::proofs::Used::for_write_opened))]
 fn write_opened(log: &mut Log, v: u32, e: Event, page: u32)
     requires turn { MayTurn log.old.guest log.old.past v }
     requires vcpu { v < vcpu_count log.old.guest }
@@ -114,7 +115,7 @@ fn write(log: &mut Log, v: u32, e: Event, page: u32)
 }
 
 /// The vCPU executes its next op, behind what the page needs that it writes.
-#[tactic(auto, unfolding(dr_turns::specs::Turns::executed), using(dr_turns::proofs::Executing::event_writes, dr_turns::proofs::Executing::quiet_follows, crate::proofs::Rooms::quiet_has_room, crate::proofs::Rooms::op_in_range))]
+#[tactic(auto, unfolding(dr_turns::specs::Turns::executed), using(crate::proofs::Used::for_op))]
 pub fn execute(log: &mut Log, v: u32, op: Op)
     requires turn { MayTurn log.old.guest log.old.past v }
     requires vcpu { v < vcpu_count log.old.guest }

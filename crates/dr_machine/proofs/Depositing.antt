@@ -9,12 +9,12 @@ use Rattle.dr_types.specs.declared.guest.SlotRow.{SlotRow}
 use Rattle.dr_types.specs.declared.entry.Entry.{Entry}
 use Rattle.dr_history.specs.declared.event.Event.TheVariants.{Deposited, Reset}
 use Rattle.dr_history.specs.Entries.{pushes}
-use Rattle.dr_log.specs.State as log
+use Rattle.dr_log.specs.Views as log
 use Rattle.dr_ring.specs.Seats.{KernelView, kernel_learnt}
-use Rattle.dr_rings.specs.Seated.{MovesAt, IsReset}
-use Rattle.dr_rings.specs.Batches.{StandFrom}
-use Rattle.dr_seats.proofs.Seating.{seats_deposit, seats_reset, seat_counts, seat_knows}
-use Rattle.dr_reaps.specs.Deposits.{next_deposited}
+use Rattle.dr_ring_set.specs.Seated.{MovesAt, IsReset}
+use Rattle.dr_ring_set.specs.Batches.{StandFrom}
+use Rattle.dr_seat_law.proofs.Seating.{seats_deposit, seats_reset, seat_counts, seat_knows}
+use Rattle.dr_turns_law.specs.Deposits.{next_deposited}
 use Rattle.dr_machine.specs.Tied.{AreTied}
 
 last_at : {X : Type 0} (x : X) (xs : List X) → (y : X) × (slice_get (x ∷ xs) (length xs) ≡ Some y)
@@ -33,7 +33,7 @@ prefix_fits : (xs ys : List Entry) → IsPrefix xs ys → length xs ≤ length y
 prefix_fits xs ys p = let e : length xs + length p.0 ≡ length ys = sym (length-append xs p.0) ∙ ap length p.1 in omega (arith, e)
 
 -- what was harvested was pushed
-pub harvested_are_pushed : (guest : Guest) (rings : List TableId) (slots : List SlotRow) (log : log.State) (seats moved : List KernelView) (v first : ℕ) (entries noted : List Entry) → AreTied guest rings slots log seats
+pub harvested_are_pushed : (guest : Guest) (rings : List TableId) (slots : List SlotRow) (log : log.LogView) (seats moved : List KernelView) (v first : ℕ) (entries noted : List Entry) → AreTied guest rings slots log seats
     → MovesAt seats moved v (λ s t. (t ≡ kernel_learnt s noted) × IsPrefix noted s.pushed) → StandFrom first entries noted → 0 < length entries → first + length entries ≤ pushes v log.past
 harvested_are_pushed guest rings slots log seats moved v first entries noted tied moves stand some =
     let a : first + length entries ≤ length noted = stand_within first entries noted stand some in
@@ -42,7 +42,7 @@ harvested_are_pushed guest rings slots log seats moved v first entries noted tie
     omega (arith, a, b, c)
 
 -- what a deposit leaves
-pub ties_deposit : (guest : Guest) (rings : List TableId) (slots : List SlotRow) (old new : log.State) (seats moved : List KernelView) (v first : ℕ) (entries noted : List Entry) → AreTied guest rings slots old seats
+pub ties_deposit : (guest : Guest) (rings : List TableId) (slots : List SlotRow) (old new : log.LogView) (seats moved : List KernelView) (v first : ℕ) (entries noted : List Entry) → AreTied guest rings slots old seats
     → MovesAt seats moved v (λ s t. (t ≡ kernel_learnt s noted) × IsPrefix noted s.pushed) → StandFrom first entries noted → 0 < length entries → new.guest ≡ old.guest → new.past ≡ Deposited v first (first + length entries) ∷ old.past → AreTied guest rings slots new moved
 ties_deposit guest rings slots old new seats moved v first entries noted tied moves stand some same past = record {
   guest_is = same ∙ tied.guest_is;
@@ -54,7 +54,7 @@ ties_deposit guest rings slots old new seats moved v first entries noted tied mo
 }
 
 -- a seat whose next entry was deposited resets it
-pub next_is_harvested : (guest : Guest) (rings : List TableId) (slots : List SlotRow) (log : log.State) (seats moved : List KernelView) (v size : ℕ) → AreTied guest rings slots log seats → next_deposited v log.past ≡ true
+pub next_is_harvested : (guest : Guest) (rings : List TableId) (slots : List SlotRow) (log : log.LogView) (seats moved : List KernelView) (v size : ℕ) → AreTied guest rings slots log seats → next_deposited v log.past ≡ true
     → MovesAt seats moved v (λ s t. IsReset size s t None) → ⊥
 unfolding next_deposited
 next_is_harvested guest rings slots log seats moved v size tied next moves =
@@ -63,7 +63,7 @@ next_is_harvested guest rings slots log seats moved v size tied next moves =
     omega (arith, less, most)
 
 -- what a reset leaves
-pub ties_reset : (guest : Guest) (rings : List TableId) (slots : List SlotRow) (old new : log.State) (seats moved : List KernelView) (v k size : ℕ) (e : Entry) → AreTied guest rings slots old seats
+pub ties_reset : (guest : Guest) (rings : List TableId) (slots : List SlotRow) (old new : log.LogView) (seats moved : List KernelView) (v k size : ℕ) (e : Entry) → AreTied guest rings slots old seats
     → MovesAt seats moved v (λ s t. IsReset size s t (Some e)) → new.guest ≡ old.guest → new.past ≡ Reset v k ∷ old.past → AreTied guest rings slots new moved
 ties_reset guest rings slots old new seats moved v k size e tied moves same past = record {
   guest_is = same ∙ tied.guest_is;

@@ -7,10 +7,10 @@ use Rattle.dr_history.specs.declared.event.Event.{Event}
 use Rattle.dr_history.specs.declared.event.Event.TheVariants.{Exited}
 use Rattle.dr_history.specs.Legality.{IsLegalSoFar}
 use Rattle.dr_history.specs.Vcpus.{in_guest}
-use Rattle.dr_may.specs.May.{MayFollow, AtRest}
+use Rattle.dr_event_law.specs.May.{MayFollow, AtRest}
 use Rattle.dr_turns.specs.Buffers.{all_pushed}
 use Rattle.dr_turns.specs.Turns.{exit_reason, after_exit}
-use Rattle.dr_turns.proofs.Leaving.{exit_follows}
+use Rattle.dr_turns_law.proofs.Leaving.{exit_follows}
 
 -- behind its whole buffer it leaves by the rules
 pub leaves_here : (guest : Guest) (past now : List Event) (v : ℕ) (why : Why) → v < vcpu_count guest → IsLegalSoFar guest past → AtRest guest past → in_guest v past ≡ true → now ≡ all_pushed v past → why ≡ exit_reason guest v now → MayFollow guest now (Exited v why)

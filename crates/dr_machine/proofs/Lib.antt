@@ -3,4 +3,5 @@ pub mod Pushing
 pub mod Machines
 pub mod Leaving
 pub mod Depositing
-pub mod Stepping
+pub mod Advancing
+pub mod Used

@@ -10,20 +10,20 @@ use Rattle.dr_history.specs.declared.event.Event.TheVariants.{Read, Write, Paint
 use Rattle.dr_history.specs.Entries.{opens}
 use Rattle.dr_history.specs.Legality.{IsLegalSoFar}
 use Rattle.dr_history.specs.Rules.{vcpu_of_op}
-use Rattle.dr_law.specs.Room.{unpushed}
-use Rattle.dr_may.specs.May.{MayFollow}
-use Rattle.dr_log.specs.State as log
+use Rattle.dr_history_law.specs.Room.{unpushed}
+use Rattle.dr_event_law.specs.May.{MayFollow}
+use Rattle.dr_log.specs.Views as log
 use Rattle.dr_ring.specs.Seats.{KernelView, new_kernel}
-use Rattle.dr_rings.specs.Seated.{ring_of_kernel}
-use Rattle.dr_seats.specs.Seats.{AreSeats, IsAside}
-use Rattle.dr_seats.proofs.Seating.{begin_seats, seats_stay}
+use Rattle.dr_ring_set.specs.Seated.{ring_of_kernel}
+use Rattle.dr_seat_law.specs.Seats.{AreSeats, IsAside}
+use Rattle.dr_seat_law.proofs.Seating.{begin_seats, seats_stay}
 use Rattle.dr_turns.specs.Between.{AtTurnsEnd}
 use Rattle.dr_turns.specs.Turns.{executed}
-use Rattle.dr_turns.proofs.Executing.{by_executed}
+use Rattle.dr_turns_law.proofs.Executing.{by_executed}
 use Rattle.dr_machine.specs.Tied.{AreRingsFor, AreTied}
 
 -- a new log and new seats
-pub ties_new : (guest held : Guest) (rings : List TableId) (slots : List SlotRow) (log : log.State) (seats : List KernelView) → held ≡ guest → AreRingsFor guest rings → slots ≡ held.slots → log.guest ≡ held → log.past ≡ [] → seats ≡ map new_kernel rings → AreTied guest rings slots log seats
+pub ties_new : (guest held : Guest) (rings : List TableId) (slots : List SlotRow) (log : log.LogView) (seats : List KernelView) → held ≡ guest → AreRingsFor guest rings → slots ≡ held.slots → log.guest ≡ held → log.past ≡ [] → seats ≡ map new_kernel rings → AreTied guest rings slots log seats
 ties_new guest held rings slots log seats is are slots_are log_is none new = record {
   guest_is = log_is ∙ is;
   slots_are = slots_are ∙ ap (λ (g : Guest). g.slots) is;
@@ -32,7 +32,7 @@ ties_new guest held rings slots log seats is are slots_are log_is none new = rec
 }
 
 -- room that is made changes no tie
-pub ties_room : (guest : Guest) (rings : List TableId) (slots : List SlotRow) (old new : log.State) (seats : List KernelView) → AreTied guest rings slots old seats → new.guest ≡ old.guest → new.past ≡ old.past → AreTied guest rings slots new seats
+pub ties_room : (guest : Guest) (rings : List TableId) (slots : List SlotRow) (old new : log.LogView) (seats : List KernelView) → AreTied guest rings slots old seats → new.guest ≡ old.guest → new.past ≡ old.past → AreTied guest rings slots new seats
 ties_room guest rings slots old new seats tied same past = record {
   guest_is = same ∙ tied.guest_is;
   slots_are = tied.slots_are;
@@ -41,7 +41,7 @@ ties_room guest rings slots old new seats tied same past = record {
 }
 
 -- nor does an event that pushes and resets nothing
-pub ties_aside : (guest : Guest) (rings : List TableId) (slots : List SlotRow) (old new : log.State) (seats : List KernelView) (e : Event) → IsAside e → AreTied guest rings slots old seats → IsLegalSoFar old.guest old.past → MayFollow guest old.past e → new.guest ≡ old.guest → new.past ≡ e ∷ old.past → AreTied guest rings slots new seats
+pub ties_aside : (guest : Guest) (rings : List TableId) (slots : List SlotRow) (old new : log.LogView) (seats : List KernelView) (e : Event) → IsAside e → AreTied guest rings slots old seats → IsLegalSoFar old.guest old.past → MayFollow guest old.past e → new.guest ≡ old.guest → new.past ≡ e ∷ old.past → AreTied guest rings slots new seats
 ties_aside guest rings slots old new seats e aside tied legal follows same past = record {
   guest_is = same ∙ tied.guest_is;
   slots_are = tied.slots_are;
@@ -70,7 +70,7 @@ seats_executed guest past v seats are =
     (λ e page is legal. seats_behind guest (Opened v (opens v past) page ∷ past) e seats (op_aside e v is) legal (seats_behind guest past (Opened v (opens v past) page) seats tt legal.1 are))
 
 -- nor does what a vCPU executes
-pub ties_executed : (guest : Guest) (rings : List TableId) (slots : List SlotRow) (old new : log.State) (seats : List KernelView) (v : ℕ) → AreTied guest rings slots old seats → IsLegalSoFar new.guest new.past → new.guest ≡ guest → new.past ≡ executed guest v old.past → AreTied guest rings slots new seats
+pub ties_executed : (guest : Guest) (rings : List TableId) (slots : List SlotRow) (old new : log.LogView) (seats : List KernelView) (v : ℕ) → AreTied guest rings slots old seats → IsLegalSoFar new.guest new.past → new.guest ≡ guest → new.past ≡ executed guest v old.past → AreTied guest rings slots new seats
 ties_executed guest rings slots old new seats v tied legal same past = record {
   guest_is = same;
   slots_are = tied.slots_are;

@@ -12,18 +12,18 @@ use Rattle.dr_history.specs.declared.event.Event.{Event}
 use Rattle.dr_history.specs.declared.event.Event.TheVariants.{Pushed}
 use Rattle.dr_history.specs.Entries.{pushes, used, page_of_entry}
 use Rattle.dr_history.specs.Legality.{IsLegalSoFar}
-use Rattle.dr_law.specs.Room.{unpushed}
-use Rattle.dr_law.proofs.Entered.{page_named}
-use Rattle.dr_may.specs.May.{MayFollow, AtRest}
+use Rattle.dr_history_law.specs.Room.{unpushed}
+use Rattle.dr_history_law.proofs.Entered.{page_named}
+use Rattle.dr_event_law.specs.May.{MayFollow, AtRest}
 use Rattle.dr_slots.specs.Places.{place_of}
-use Rattle.dr_log.specs.State as log
+use Rattle.dr_log.specs.Views as log
 use Rattle.dr_ring.specs.Seats.{KernelView, IsOfSize}
-use Rattle.dr_rings.specs.Seated.{IfAt, MovesAt}
-use Rattle.dr_seats.specs.Entries.{entry}
-use Rattle.dr_seats.proofs.FirstEntries.{entry_of_page, few_pushes}
-use Rattle.dr_seats.proofs.Seating.{seats_push, seat_counts, seat_has_room}
+use Rattle.dr_ring_set.specs.Seated.{IfAt, MovesAt}
+use Rattle.dr_seat_law.specs.Entries.{entry}
+use Rattle.dr_seat_law.proofs.FirstEntries.{entry_of_page, few_pushes}
+use Rattle.dr_seat_law.proofs.Seating.{seats_push, seat_counts, seat_has_room}
 use Rattle.dr_turns.specs.Buffers.{pushed_behind}
-use Rattle.dr_turns.proofs.Buffers.{own_pushes, next_follows}
+use Rattle.dr_turns_law.proofs.Buffers.{own_pushes, next_follows}
 use Rattle.dr_machine.specs.Tied.{AreTied}
 
 -- an entry lies where its page lies
@@ -46,11 +46,11 @@ one_size guest (id ∷ ids) v size lt ours theirs =
     omega (arith, a, b)
 
 -- a vCPU has its ring
-pub has_ring : (guest : Guest) (rings : List TableId) (slots : List SlotRow) (log : log.State) (seats : List KernelView) (v : ℕ) → AreTied guest rings slots log seats → v < vcpu_count guest → v < length rings
+pub has_ring : (guest : Guest) (rings : List TableId) (slots : List SlotRow) (log : log.LogView) (seats : List KernelView) (v : ℕ) → AreTied guest rings slots log seats → v < vcpu_count guest → v < length rings
 has_ring guest rings slots log seats v tied lt = subst (λ (n : ℕ). v < n) (sym tied.rings_are.one_each) lt
 
 -- where the events leave a place in a ring, its seat has one
-pub seat_has_place : (guest : Guest) (rings : List TableId) (slots : List SlotRow) (log : log.State) (seats : List KernelView) (v size : ℕ) → AreTied guest rings slots log seats → IsLegalSoFar log.guest log.past → All (IsOfSize size) rings → v < vcpu_count guest → used v log.past < guest.settings.ring
+pub seat_has_place : (guest : Guest) (rings : List TableId) (slots : List SlotRow) (log : log.LogView) (seats : List KernelView) (v size : ℕ) → AreTied guest rings slots log seats → IsLegalSoFar log.guest log.past → All (IsOfSize size) rings → v < vcpu_count guest → used v log.past < guest.settings.ring
     → IfAt seats v (λ s. length s.pushed < s.reset + size)
 seat_has_place guest rings slots log seats v size tied legal sizes lt place =
     λ s at.
@@ -59,7 +59,7 @@ seat_has_place guest rings slots log seats v size tied legal sizes lt place =
     (seat_has_room guest log.past v guest.settings.ring s (tied.seats_are.are v s at) (subst (λ (g : Guest). IsLegalSoFar g log.past) tied.guest_is legal) place)
 
 -- and its count has room
-pub seat_has_count : (guest : Guest) (rings : List TableId) (slots : List SlotRow) (log : log.State) (seats : List KernelView) (v : ℕ) → AreTied guest rings slots log seats → IsLegalSoFar log.guest log.past → IsValid log.guest
+pub seat_has_count : (guest : Guest) (rings : List TableId) (slots : List SlotRow) (log : log.LogView) (seats : List KernelView) (v : ℕ) → AreTied guest rings slots log seats → IsLegalSoFar log.guest log.past → IsValid log.guest
     → IfAt seats v (λ s. length s.pushed < 2 ^ 64 - 1)
 seat_has_count guest rings slots log seats v tied legal valid =
     λ s at.
@@ -67,7 +67,7 @@ seat_has_count guest rings slots log seats v tied legal valid =
     (few_pushes log.guest log.past v valid legal)
 
 -- what a push of the seat and its event leave
-pub ties_push : (guest : Guest) (rings : List TableId) (slots : List SlotRow) (old new : log.State) (seats moved : List KernelView) (v k : ℕ) (e : Entry) → AreTied guest rings slots old seats → k ≡ pushes v old.past → entry old.guest v k old.past ≡ Some e
+pub ties_push : (guest : Guest) (rings : List TableId) (slots : List SlotRow) (old new : log.LogView) (seats moved : List KernelView) (v k : ℕ) (e : Entry) → AreTied guest rings slots old seats → k ≡ pushes v old.past → entry old.guest v k old.past ≡ Some e
     → MovesAt seats moved v (λ s t. t ≡ record s { pushed = s.pushed ++ e ∷ [] }) → new.guest ≡ old.guest → new.past ≡ Pushed v k ∷ old.past → AreTied guest rings slots new moved
 ties_push guest rings slots old new seats moved v k e tied number is moves same past = record {
   guest_is = same ∙ tied.guest_is;

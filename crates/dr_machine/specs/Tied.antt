@@ -4,9 +4,9 @@ use Rattle.atomic_table.specs.Seated.{TableId}
 use Rattle.dr_types.specs.declared.guest.Guest.{Guest}
 use Rattle.dr_types.specs.declared.guest.SlotRow.{SlotRow}
 use Rattle.dr_types.specs.Scripts.{vcpu_count}
-use Rattle.dr_log.specs.State as log
+use Rattle.dr_log.specs.Views as log
 use Rattle.dr_ring.specs.Seats.{KernelView, IsOfSize}
-use Rattle.dr_seats.specs.Seats.{AreSeats}
+use Rattle.dr_seat_law.specs.Seats.{AreSeats}
 
 -- there is one ring for each vCPU, of the guest's ring size
 pub record AreRingsFor (guest : Guest) (rings : List TableId) : Type 0 where
@@ -16,7 +16,7 @@ pub record AreRingsFor (guest : Guest) (rings : List TableId) : Type 0 where
 -- the log is of this guest, with these rings and slots,
 -- and each kernel seat has pushed and reset what the events say
 pub record AreTied (guest : Guest) (rings : List TableId) (slots : List SlotRow)
-    (log : log.State) (seats : List KernelView) : Type 0 where
+    (log : log.LogView) (seats : List KernelView) : Type 0 where
   pub guest_is : log.guest ≡ guest
   pub slots_are : slots ≡ guest.slots
   pub rings_are : AreRingsFor guest rings

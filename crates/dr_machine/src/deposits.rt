@@ -1,13 +1,13 @@
 ghost use Rattle.std.specs.Prelude.{◌≡◌, ◌<◌, ◌≤◌, ◌∷◌, ◌+◌, None, length};
 ghost use Rattle.dr_history.specs.declared.event.Event.{Event};
 ghost use Rattle.dr_turns.specs.Between.{AtTurnsEnd};
-ghost use Rattle.dr_reaps.specs.Deposits.{first_twice};
+ghost use Rattle.dr_turns_law.specs.Deposits.{first_twice};
 ghost use Rattle.dr_machine.specs.Tied.{AreTied};
 
 use dr_history::Event;
 use dr_log::Log;
 use dr_ring::Name;
-use dr_rings::{Batch, KernelSeats, Rings};
+use dr_ring_set::{Batch, KernelSeats, Rings};
 use dr_slots::Slots;
 
 /// Why a batch wasn't deposited. It is handed back.
@@ -47,8 +47,10 @@ pub fn deposit_fresh<N: Name>(
         name: _,
     } = batch;
     let to = first + entries.len() as u64;
+    // The entries stay in the ring, and the batch's own copies go: the seat now knows that these
+    // numbers were harvested, so a reset finds each of them, and the list of events has the rest.
     seats.learn(rings, vcpu, note);
-    log.is_legal();
+    log.recall_legal();
     log.take(Event::Deposited {
         v: vcpu,
         from: first,

@@ -2,17 +2,17 @@ ghost use Rattle.std.specs.Prelude.{◌≡◌, length};
 ghost use Rattle.dr_types.specs.Scripts.{vcpu_count};
 ghost use Rattle.dr_types.specs.Validity.{IsValid};
 ghost use Rattle.dr_history.specs.Legality.{IsLegal};
-ghost use Rattle.dr_seats.specs.Seats.{AreSeats};
+ghost use Rattle.dr_seat_law.specs.Seats.{AreSeats};
 
 use dr_history::History;
-use dr_rings::KernelSeatList;
+use dr_ring_set::KernelSeatList;
 use dr_types::Guest;
 use std::marker::Model;
 
 /// What is left of a machine, without the name: its guest, what has happened to it, and the kernel
-/// seats of its rings, one for each vCPU. Its type keeps that the guest is valid, that the history is
-/// legal for it, and that each seat has pushed and reset what the events say. Only a machine makes
-/// one.
+/// seats of its rings, one for each vCPU. Its type keeps that the guest is valid, that the history
+/// is legal for it, and that each seat has pushed and reset what the events say. Only a machine
+/// makes one.
 #[derive(Drop)]
 pub struct Kept {
     guest: Guest,
@@ -25,10 +25,10 @@ impl Model for Kept {
     ghost use Rattle.dr_types.specs.Scripts.{vcpu_count};
     ghost use Rattle.dr_types.specs.Validity.{IsValid};
     ghost use Rattle.dr_history.specs.Legality.{IsLegal};
-    ghost use Rattle.dr_seats.specs.Seats.{AreSeats};
-    ghost use Rattle.dr_machine.specs.States.{Left};
+    ghost use Rattle.dr_seat_law.specs.Seats.{AreSeats};
+    ghost use Rattle.dr_machine.specs.Views.{KeptView};
 
-    ghost Value = { Left };
+    ghost Value = { KeptView };
 
     ghost view = { λ k. record { guest = k.guest; past = k.history.past; seats = k.seats } };
 
@@ -70,7 +70,7 @@ impl Kept {
         ensures seats { AreSeats self.now.guest result.now.past self.now.seats }
         ensures one_each { length self.now.seats ≡ vcpu_count self.now.guest }
     {
-        let _guest = &self.guest;
+        let _recall_guest = &self.guest;
         &self.history
     }
 }

@@ -1,5 +1,7 @@
-ghost use Rattle.std.specs.Prelude.{◌≡◌, ◌<◌, ◌≤◌, ◌+◌, [], ◌∷◌, ℕ, true, false, map, length, nat_lt};
-ghost use Rattle.std.specs.Prelude.{slice_get, Ok, Err, Some, None, IfOk, IfErr, OnOk, OnErr, IfSome};
+ghost use Rattle.std.specs.Prelude.{◌≡◌, ◌<◌, ◌≤◌, ◌+◌, [], ◌∷◌, ℕ, true, false, map, length};
+ghost use Rattle.std.specs.Prelude.{nat_lt};
+ghost use Rattle.std.specs.Prelude.{slice_get, Ok, Err, Some, None, IfOk, IfErr, OnOk, OnErr};
+ghost use Rattle.std.specs.Prelude.{IfSome};
 ghost use Rattle.std.specs.List.{list_any};
 ghost use Rattle.dr_types.specs.Pages.{page_count};
 ghost use Rattle.dr_types.specs.Scripts.{operation, vcpu_count};
@@ -12,13 +14,14 @@ ghost use Rattle.dr_history.specs.Memory.{page_bytes};
 ghost use Rattle.dr_history.specs.Rules.{deposits_entry};
 ghost use Rattle.dr_history.specs.Vcpus.{in_guest};
 ghost use Rattle.dr_ring.specs.Seats.{kernel_note, new_kernel};
-ghost use Rattle.dr_rings.specs.Seated.{HasAt};
-ghost use Rattle.dr_seats.specs.Seats.{AreSeats};
+ghost use Rattle.dr_ring_set.specs.Seated.{HasAt};
+ghost use Rattle.dr_seat_law.specs.Seats.{AreSeats};
 ghost use Rattle.dr_turns.specs.Between.{AtTurnsEnd, MayTurn};
 ghost use Rattle.dr_turns.specs.Buffers.{all_pushed};
 ghost use Rattle.dr_turns.specs.Due.{advanced, run_end, some_closing};
-ghost use Rattle.dr_turns.specs.Turns.{refusal, op_step, after_op, exit_reason, after_exit, all_out};
-ghost use Rattle.dr_reaps.specs.Deposits.{first_twice, next_deposited, HasGap};
+ghost use Rattle.dr_turns.specs.Turns.{refusal, op_step, after_op, exit_reason, after_exit};
+ghost use Rattle.dr_turns.specs.Turns.{all_out};
+ghost use Rattle.dr_turns_law.specs.Deposits.{first_twice, next_deposited, HasGap};
 ghost use Rattle.dr_log_turns.specs.Copies.{copied_into};
 ghost use Rattle.dr_log_turns.specs.Throttled.{last_throttle};
 ghost use Rattle.dr_machine.specs.Tied.{AreRingsFor};
@@ -28,24 +31,24 @@ use crate::exits::leave;
 use crate::kept::Kept;
 use crate::pushes::push_where_full;
 use crate::resets::reset_next;
-use dr_bytes::PageBytes;
 use dr_history::History;
 use dr_log::Log;
 use dr_log_turns::{
-    Throttles, all_out, deposited, execute, first_twice, flush, full_buffer, is_closing,
-    is_next_deposited, make_room, next_op, run_end, step, step_after,
+    Throttles, advance, all_out, deposited, execute, first_twice, flush, full_buffer, is_closing,
+    is_next_deposited, make_room, next_op, run_end, step_after,
 };
+use dr_memory::PageBytes;
 use dr_ring::{Name, Note};
-use dr_rings::{Batch, KernelSeats, Rings};
+use dr_ring_set::{Batch, KernelSeats, Rings};
 use dr_slots::Slots;
 use dr_turns::{Advance, RunEnd, Turn};
 use dr_types::{Guest, Memory, Op, Why};
 use std::alloc::Global;
 use std::marker::Model;
 
-/// The guest that the name fixes, what has happened to it, and the kernel seats of its rings. Its type
-/// keeps that the history is legal, that nothing is owed between turns, and that each seat has pushed
-/// and reset what the events say.
+/// The guest that the name fixes, what has happened to it, and the kernel seats of its rings. Its
+/// type keeps that the history is legal, that nothing is owed between turns, and that each seat has
+/// pushed and reset what the events say.
 #[derive(Drop)]
 pub struct Machine<N: Name> {
     alloc: Global,
@@ -60,10 +63,10 @@ impl<N: Name> Model for Machine<N> {
     ghost use Rattle.std.specs.Prelude.{◌≡◌};
     ghost use Rattle.dr_turns.specs.Between.{AtTurnsEnd};
     ghost use Rattle.dr_log_turns.specs.Throttled.{AreThrottles};
-    ghost use Rattle.dr_machine.specs.States.{State};
+    ghost use Rattle.dr_machine.specs.Views.{MachineView};
     ghost use Rattle.dr_machine.specs.Tied.{AreTied};
 
-    ghost Value = { State };
+    ghost Value = { MachineView };
 
     ghost view = { λ m. record { past = m.log.past; seats = m.seats; over = m.over } };
 
@@ -100,16 +103,16 @@ impl<N: Name> Machine<N> {
         })
     }
 
-    /// What the type of a machine keeps: its history is legal, and the list of each kernel seat has its
-    /// vCPU's entries from the first to the last that is pushed, with their number that is reset. No
-    /// buffer is full.
-    pub fn keeps(&self)
+    /// What the type of a machine keeps: its history is legal, and the list of each kernel seat has
+    /// its vCPU's entries from the first to the last that is pushed, with their number that is
+    /// reset. No buffer is full.
+    pub fn recall_kept(&self)
         ensures legal { IsLegal N.guest self.now.past }
         ensures end { AtTurnsEnd N.guest self.now.past }
         ensures seats { AreSeats N.guest self.now.past self.now.seats }
         ensures rings { AreRingsFor N.guest N.rings }
     {
-        self.log.is_legal();
+        self.log.recall_legal();
     }
 
     /// Executes a vCPU's next op, or tells why not.
@@ -143,9 +146,11 @@ impl<N: Name> Machine<N> {
         ensures over { self.new.over ≡ self.old.over }
         ensures err { OnErr result (self.new ≡ self.old) }
     {
+        // All memory before the first event: after a refusal the vCPU has executed nothing, so the
+        // same op is its next again.
         make_room(&mut self.log, v, op)?;
         execute(&mut self.log, v, op);
-        self.log.is_legal();
+        self.log.recall_legal();
         push_where_full(&mut self.log, &mut self.seats, rings, &self.slots, v);
         Ok(Turn::Done(step_after(op)))
     }
@@ -164,7 +169,7 @@ impl<N: Name> Machine<N> {
     {
         let inside = self.log.in_guest(v);
         if inside {
-            self.log.is_legal();
+            self.log.recall_legal();
             let events = full_buffer(self.log.guest()) + 1;
             self.log.reserve(events)?;
             Ok(Some(leave(&mut self.log, &mut self.seats, rings, &self.slots, v)))
@@ -195,7 +200,8 @@ impl<N: Name> Machine<N> {
             first_twice batch.vcpu batch.first self.old.past to ≡ None
             → IfErr result (λ fault. fault ≡ DepositFault.Memory batch) }
         ensures appended { let to = batch.first + length batch.entries in
-            OnOk result (self.new.past ≡ Event.Deposited batch.vcpu batch.first to ∷ self.old.past) }
+            OnOk result (self.new.past ≡ Event.Deposited batch.vcpu batch.first to
+            ∷ self.old.past) }
         ensures over { self.new.over ≡ self.old.over }
         ensures err { OnErr result (self.new ≡ self.old) }
     {
@@ -204,6 +210,7 @@ impl<N: Name> Machine<N> {
             Some(k) => return Err(DepositFault::Twice { batch, k }),
             None => {}
         }
+        // Twice is judged before memory: a batch that can never be deposited isn't tried again.
         match self.log.reserve(1) {
             Ok(()) => {}
             Err(_) => return Err(DepositFault::Memory { batch }),
@@ -212,8 +219,8 @@ impl<N: Name> Machine<N> {
         Ok(())
     }
 
-    /// How many of v's entries are deposited, where these are its first; `None` where one isn't and a
-    /// later one is.
+    /// How many of v's entries are deposited, where these are its first; `None` where one isn't and
+    /// a later one is.
     pub fn deposited(&self, v: u32) -> Option<u64>
         requires { v < vcpu_count N.guest }
         ensures some { IfSome result (λ n. (k : ℕ)
@@ -237,6 +244,8 @@ impl<N: Name> Machine<N> {
     {
         if is_next_deposited(&self.log, v) {
             self.log.reserve(1)?;
+            // The page stays on the list of closing pages until a flush, so it needs its place
+            // there.
             self.log.make_closing_room()?;
             reset_next(&mut self.log, &mut self.seats, rings, &self.slots, v);
             Ok(1)
@@ -258,7 +267,7 @@ impl<N: Name> Machine<N> {
     {
         if is_closing(&self.log) {
             self.log.reserve(1)?;
-            self.log.is_legal();
+            self.log.recall_legal();
             flush(&mut self.log);
             Ok(true)
         } else {
@@ -266,7 +275,7 @@ impl<N: Name> Machine<N> {
         }
     }
 
-    /// Does the step of the migrator that is due: the first of the list that applies. A page that it
+    /// Makes the advance that is due: the first of the list that applies. A page that it
     /// copies goes into the bytes.
     pub fn advance(&mut self, now: u64, into: &mut PageBytes) -> Result<Advance, Memory>
         ensures answer { IfOk result (λ a. a ≡ (advanced N.guest now self.old.past).0) }
@@ -277,12 +286,12 @@ impl<N: Name> Machine<N> {
         ensures err { OnErr result (self.new ≡ self.old) }
         ensures kept { OnErr result (into.new ≡ into.old) }
     {
-        self.log.is_legal();
+        self.log.recall_legal();
         self.log.reserve(1)?;
-        let step = step(&mut self.log, self.alloc, now, into)?;
-        self.log.is_legal();
-        self.throttles.follow(&self.log, step);
-        Ok(step)
+        let due = advance(&mut self.log, self.alloc, now, into)?;
+        self.log.recall_legal();
+        self.throttles.follow(&self.log, due);
+        Ok(due)
     }
 
     /// How long a vCPU was last throttled, in microseconds: what its last Throttled says, or 0.
@@ -348,8 +357,8 @@ impl<N: Name> Machine<N> {
         self.log.page(page)
     }
 
-    /// What is left without the name: the guest that it fixes, the history and the kernel seats, one for
-    /// each vCPU.
+    /// What is left without the name: the guest that it fixes, the history and the kernel seats,
+    /// one for each vCPU.
     #[tactic(auto, using(crate::proofs::Machines::one_seat_each))]
     pub fn keep(self) -> Kept
         ensures guest { result.guest ≡ N.guest }
@@ -357,7 +366,7 @@ impl<N: Name> Machine<N> {
         ensures seats { result.seats ≡ self.seats }
         ensures one_each { length result.seats ≡ vcpu_count N.guest }
     {
-        self.keeps();
+        self.recall_kept();
         let Machine { log, seats, .. } = self;
         let (guest, history) = log.into_parts();
         Kept::of(guest, history, seats.into_seats())

@@ -2,9 +2,9 @@ ghost use Rattle.std.specs.Prelude.{◌≡◌, ◌<◌, ◌≤◌, ◌+◌, ◌�
 ghost use Rattle.dr_types.specs.Scripts.{vcpu_count};
 ghost use Rattle.dr_history.specs.declared.event.Event.{Event};
 ghost use Rattle.dr_history.specs.Entries.{opens, pushes, used};
-ghost use Rattle.dr_law.specs.Room.{unpushed};
-ghost use Rattle.dr_may.specs.May.{MayFollow, AtRest};
-ghost use Rattle.dr_seats.specs.Entries.{entry};
+ghost use Rattle.dr_history_law.specs.Room.{unpushed};
+ghost use Rattle.dr_event_law.specs.May.{MayFollow, AtRest};
+ghost use Rattle.dr_seat_law.specs.Entries.{entry};
 ghost use Rattle.dr_turns.specs.Buffers.{all_pushed, pushed_where_full};
 ghost use Rattle.dr_machine.specs.Tied.{AreTied};
 
@@ -12,7 +12,7 @@ use dr_history::Event;
 use dr_log::Log;
 use dr_log_turns::full_buffer;
 use dr_ring::Name;
-use dr_rings::{KernelSeats, Rings};
+use dr_ring_set::{KernelSeats, Rings};
 use dr_slots::Slots;
 use dr_types::Entry;
 
@@ -24,7 +24,7 @@ fn entry(log: &Log, slots: &Slots, v: u32, k: u64) -> Entry
     requires opened { k < opens v log.now.past }
     ensures { entry log.now.guest v k log.now.past ≡ Some result }
 {
-    log.is_legal();
+    log.recall_legal();
     match log.entry_page(v, k) {
         Some(page) => slots.place(page),
         None => unreachable!(),
@@ -49,8 +49,10 @@ fn push_next<N: Name>(
     ensures tied { AreTied N.guest N.rings slots.now log.new seats.new }
     ensures events { log.old.room.events ≤ log.new.room.events + 1 }
 {
-    rings.are_sized();
-    log.is_legal();
+    rings.recall_sizes();
+    log.recall_legal();
+    // There is a place: `reserve` and `buffer` keep the soft limit so far below the size that a
+    // full buffer fits above it, as KVM reserves entries for the processor's log.
     let k = log.pushes(v);
     let entry = entry(log, slots, v, k);
     seats.push(rings, v, entry);
@@ -58,7 +60,7 @@ fn push_next<N: Name>(
 }
 
 /// Pushes a vCPU's whole buffer, in order.
-#[tactic(auto, using(dr_turns::proofs::Buffers::finds_place, crate::proofs::Pushing::next_may_follow, crate::proofs::Pushing::one_more))]
+#[tactic(auto, using(crate::proofs::Used::for_push_buffer))]
 pub fn push_buffer<N: Name>(
     log: &mut Log,
     seats: &mut KernelSeats<N>,
@@ -76,7 +78,7 @@ pub fn push_buffer<N: Name>(
 {
     let unpushed = log.opens(v).saturating_sub(log.pushes(v));
     for n in 0..unpushed {
-        log.is_legal();
+        log.recall_legal();
         push_next(log, seats, rings, slots, v);
     }
 }

@@ -3,13 +3,13 @@ ghost use Rattle.dr_types.specs.Scripts.{vcpu_count};
 ghost use Rattle.dr_history.specs.declared.event.Event.{Event};
 ghost use Rattle.dr_history.specs.Entries.{resets};
 ghost use Rattle.dr_turns.specs.Between.{AtTurnsEnd};
-ghost use Rattle.dr_reaps.specs.Deposits.{next_deposited};
+ghost use Rattle.dr_turns_law.specs.Deposits.{next_deposited};
 ghost use Rattle.dr_machine.specs.Tied.{AreTied};
 
 use dr_history::Event;
 use dr_log::Log;
 use dr_ring::Name;
-use dr_rings::{KernelSeats, Rings};
+use dr_ring_set::{KernelSeats, Rings};
 use dr_slots::Slots;
 
 /// Resets the vCPU's next entry, in its ring and as an event.
@@ -30,8 +30,10 @@ pub fn reset_next<N: Name>(
     ensures tied { AreTied N.guest N.rings slots.now log.new seats.new }
     ensures end { AtTurnsEnd N.guest log.new.past }
 {
-    log.is_legal();
+    log.recall_legal();
     let k = log.resets(v);
+    // The entry that comes out of the ring decides nothing: which page is protected follows from
+    // the events, and the type of the seats keeps that the ring has these events' entries.
     match seats.reset_next(rings, v) {
         Some(_) => log.take(Event::Reset { v, k }),
         None => unreachable!(),

@@ -5,7 +5,7 @@ ghost use Rattle.dr_ring.specs.Seats.{new_kernel, new_user};
 
 use crate::machine::Machine;
 use dr_ring::Name;
-use dr_rings::{RingParts, RingSet, Rings, UserSeats};
+use dr_ring_set::{RingParts, RingSet, Rings, UserSeats};
 use dr_types::{Guest, Memory};
 use std::alloc::Global;
 
@@ -41,7 +41,7 @@ pub fn new_rig<N: Name>(alloc: Global, guest: Guest, set: RingSet) -> Result<Rig
     ensures vcpus { IfOk result (λ rig. rig.rings.vcpus ≡ vcpu_count N.guest) }
     ensures size { IfOk result (λ rig. rig.rings.size ≡ N.guest.settings.ring) }
 {
-    set.are_sized();
+    set.recall_sizes();
     let RingParts {
         rings,
         kernels,

@@ -1,4 +1,4 @@
--- What the migrator's first step leaves.
+-- What the first advance leaves.
 use Rattle.std.proofs.Common.{◌≡◌, ℕ, ◌<◌, true, false, List, ◌∷◌, Option, Some, None, refl, ap, sym, subst, ◌∙◌}
 use Rattle.std.specs.Prelude.{not, nat_le, Result, Ok, Err, IfOk, OnOk, OnErr}
 use Rattle.std.proofs.lemmas.Bool.{leb-false, or_parts, not-false, not-true}
@@ -19,22 +19,22 @@ use Rattle.dr_turns.specs.declared.answers.Advance.{Advance}
 use Rattle.dr_turns.specs.declared.answers.Advance.TheVariants.{Started, NotPaced}
 use Rattle.dr_turns.specs.Due.{begun, advanced}
 use Rattle.dr_turns.specs.Firsts.{first_unpaced}
-use Rattle.dr_turns.proofs.Found.{first_none, first_some}
-use Rattle.dr_machine.specs.States.{State}
+use Rattle.dr_turns_law.proofs.Found.{first_none, first_some}
+use Rattle.dr_machine.specs.Views.{MachineView}
 use Rattle.dr_machine_law.specs.Beginning.{IsFirstUnpaced, BeginsOrWaits}
 
--- what a machine says of the migrator's first step
-pub record StartOf (guest : Guest) (now : ℕ) (old new : State) (result : Result Advance Memory) : Type 0 where
+-- what a machine says of the first advance
+pub record StartOf (guest : Guest) (now : ℕ) (old new : MachineView) (result : Result Advance Memory) : Type 0 where
   pub fresh : started old.past ≡ false
   pub before : IsLegal guest old.past
-  pub answer : IfOk result (λ step. step ≡ (advanced guest now old.past).0)
+  pub answer : IfOk result (λ due. due ≡ (advanced guest now old.past).0)
   pub appended : OnOk result (new.past ≡ (advanced guest now old.past).1)
   pub err : OnErr result (new ≡ old)
 
--- before Start the step that is due is the first
-pub first_step : (guest : Guest) (now : ℕ) (past : List Event) → started past ≡ false → advanced guest now past ≡ begun now past (first_unpaced guest past past)
+-- before Start the advance that is due is the first
+pub no_deposits : (guest : Guest) (now : ℕ) (past : List Event) → started past ≡ false → advanced guest now past ≡ begun now past (first_unpaced guest past past)
 unfolding advanced
-first_step guest now past fresh = rw fresh refl
+no_deposits guest now past fresh = rw fresh refl
 
 unpaced_at : (guest : Guest) (past : List Event) (v : ℕ) → first_unpaced guest past past ≡ Some v → IsFirstUnpaced guest past v (ops v past)
 unfolding first_unpaced
@@ -70,26 +70,26 @@ bytes_case : (guest : Guest) (page now : ℕ) (past : List Event) (found : Optio
 bytes_case guest page now past None = refl
 bytes_case guest page now past (Some v) = refl
 
-either_case : (P : State → Type 0) (old new : State) (past : List Event) (result : Result Advance Memory) → OnOk result (new.past ≡ past) → OnErr result (new ≡ old) → P old → (new.past ≡ past → P new) → P new
-either_case P old new past (Ok step) appended err same then = then appended
+either_case : (P : MachineView → Type 0) (old new : MachineView) (past : List Event) (result : Result Advance Memory) → OnOk result (new.past ≡ past) → OnErr result (new ≡ old) → P old → (new.past ≡ past → P new) → P new
+either_case P old new past (Ok due) appended err same then = then appended
 either_case P old new past (Err memory) appended err same then = subst P (sym err) same
 
-module _ {guest : Guest} {now : ℕ} {old new : State} {result : Result Advance Memory} (start : StartOf guest now old new result) where
-  step_is : advanced guest now old.past ≡ begun now old.past (first_unpaced guest old.past old.past)
-  step_is = first_step guest now old.past start.fresh
+module _ {guest : Guest} {now : ℕ} {old new : MachineView} {result : Result Advance Memory} (start : StartOf guest now old new result) where
+  advance_is : advanced guest now old.past ≡ begun now old.past (first_unpaced guest old.past old.past)
+  advance_is = no_deposits guest now old.past start.fresh
 
-  answer_is : (step : Advance) → result ≡ Ok step → step ≡ (begun now old.past (first_unpaced guest old.past old.past)).0
-  answer_is step is =
-      IfOk-at_ok (λ (a : Advance). a ≡ (advanced guest now old.past).0) is start.answer ∙ ap (λ (p : Advance × List Event). p.0) step_is
+  answer_is : (due : Advance) → result ≡ Ok due → due ≡ (begun now old.past (first_unpaced guest old.past old.past)).0
+  answer_is due is =
+      IfOk-at_ok (λ (a : Advance). a ≡ (advanced guest now old.past).0) is start.answer ∙ ap (λ (p : Advance × List Event). p.0) advance_is
 
   past_is : OnOk result (new.past ≡ (begun now old.past (first_unpaced guest old.past old.past)).1)
-  past_is = subst (λ (p : Advance × List Event). OnOk result (new.past ≡ p.1)) step_is start.appended
+  past_is = subst (λ (p : Advance × List Event). OnOk result (new.past ≡ p.1)) advance_is start.appended
 
   -- either each vCPU is paced, or the least that isn't is named
-  pub start_answers : IfOk result (λ step. BeginsOrWaits guest old.past step)
+  pub start_answers : IfOk result (λ due. BeginsOrWaits guest old.past due)
   start_answers =
       IfOk-weaker result (λ (a : Advance). a ≡ (advanced guest now old.past).0) (λ (a : Advance). BeginsOrWaits guest old.past a)
-      (λ step is. subst (λ (a : Advance). BeginsOrWaits guest old.past a) (sym (is ∙ ap (λ (p : Advance × List Event). p.0) step_is)) (begins_case guest now old.past (first_unpaced guest old.past old.past) refl))
+      (λ due is. subst (λ (a : Advance). BeginsOrWaits guest old.past a) (sym (is ∙ ap (λ (p : Advance × List Event). p.0) advance_is)) (begins_case guest now old.past (first_unpaced guest old.past old.past) refl))
       start.answer
 
   start_past : result ≡ Ok Started → new.past ≡ Start now ∷ old.past
@@ -118,5 +118,5 @@ module _ {guest : Guest} {now : ℕ} {old new : State} {result : Result Advance 
   -- each page keeps its bytes
   pub start_bytes : (page : ℕ) → page_bytes guest page new.past ≡ page_bytes guest page old.past
   start_bytes page =
-      either_case (λ (s : State). page_bytes guest page s.past ≡ page_bytes guest page old.past) old new (begun now old.past (first_unpaced guest old.past old.past)).1 result past_is start.err refl
+      either_case (λ (s : MachineView). page_bytes guest page s.past ≡ page_bytes guest page old.past) old new (begun now old.past (first_unpaced guest old.past old.past)).1 result past_is start.err refl
       (λ same. ap (page_bytes guest page) same ∙ bytes_case guest page now old.past (first_unpaced guest old.past old.past))

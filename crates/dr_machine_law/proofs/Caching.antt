@@ -11,8 +11,8 @@ use Rattle.dr_history.specs.Entries.{opens}
 use Rattle.dr_history.specs.Execution.{ops}
 use Rattle.dr_history.specs.Protection.{started, opened_last, writable, cached}
 use Rattle.dr_history.specs.Rules.{vcpu_of_op}
-use Rattle.dr_may.specs.Operations.{op_event}
-use Rattle.dr_may.proofs.Operations.{op_of}
+use Rattle.dr_event_law.specs.Operations.{op_event}
+use Rattle.dr_event_law.proofs.Operations.{op_of}
 use Rattle.dr_turns.specs.Turns.{event_behind, op_behind, executed, after_op}
 use Rattle.dr_machine_law.specs.Turns.{page_of_op, next_page}
 use Rattle.dr_machine_law.proofs.Events.{op_leaves}

@@ -10,7 +10,7 @@ use Rattle.dr_history.specs.Execution.{ops}
 use Rattle.dr_history.specs.Protection.{started}
 use Rattle.dr_history.specs.Vcpus.{in_guest}
 use Rattle.dr_turns.specs.Turns.{executed, after_op}
-use Rattle.dr_turns.proofs.Executing.{by_executed}
+use Rattle.dr_turns_law.proofs.Executing.{by_executed}
 use Rattle.dr_machine_law.proofs.Events.{op_leaves, counts_own, counts_others}
 use Rattle.dr_machine_law.proofs.Pushing.{by_full}
 

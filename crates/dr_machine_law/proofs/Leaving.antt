@@ -13,37 +13,37 @@ use Rattle.dr_history.specs.Legality.{IsLegal}
 use Rattle.dr_history.specs.Memory.{page_bytes}
 use Rattle.dr_history.specs.Protection.{started}
 use Rattle.dr_history.specs.Vcpus.{in_guest, kicked}
-use Rattle.dr_law.specs.Room.{unpushed}
-use Rattle.dr_law.proofs.Outstanding.{pushed_opened}
-use Rattle.dr_rings.specs.Seated.{IfAt}
-use Rattle.dr_seats.specs.Seats.{AreSeats}
-use Rattle.dr_seats.proofs.Seating.{seat_counts}
+use Rattle.dr_history_law.specs.Room.{unpushed}
+use Rattle.dr_history_law.proofs.Outstanding.{pushed_opened}
+use Rattle.dr_ring_set.specs.Seated.{IfAt}
+use Rattle.dr_seat_law.specs.Seats.{AreSeats}
+use Rattle.dr_seat_law.proofs.Seating.{seat_counts}
 use Rattle.dr_turns.specs.Turns.{after_exit}
-use Rattle.dr_machine.specs.States.{State}
+use Rattle.dr_machine.specs.Views.{MachineView}
 use Rattle.dr_machine_law.proofs.Legal.{owes_no_opened}
 use Rattle.dr_machine_law.proofs.Outside.{outside_unkicked, outside_empty}
 use Rattle.dr_machine_law.proofs.Pushing.{by_pushed}
 
 -- what a machine says of a vCPU's exit
-pub record ExitOf (guest : Guest) (v : ℕ) (old new : State) (result : Result (Option Why) Memory) : Type 0 where
+pub record ExitOf (guest : Guest) (v : ℕ) (old new : MachineView) (result : Result (Option Why) Memory) : Type 0 where
   pub after : IsLegal guest new.past
   pub seats : AreSeats guest new.past new.seats
   pub stays : in_guest v old.past ≡ false → new ≡ old
   pub appended : in_guest v old.past ≡ true → OnOk result (new.past ≡ after_exit guest v old.past)
   pub err : OnErr result (new ≡ old)
 
-inside_case : (P : State → Type 0) (past : List Event) (old new : State) (result : Result (Option Why) Memory) → OnOk result (new.past ≡ past) → OnErr result (new ≡ old) → P old → (new.past ≡ past → P new) → P new
+inside_case : (P : MachineView → Type 0) (past : List Event) (old new : MachineView) (result : Result (Option Why) Memory) → OnOk result (new.past ≡ past) → OnErr result (new ≡ old) → P old → (new.past ≡ past → P new) → P new
 inside_case P past old new (Ok why) appended err same then = then appended
 inside_case P past old new (Err memory) appended err same then = subst P (sym err) same
 
-always_case : (P : State → Type 0) (past : List Event) (old new : State) (inside : Bool) (result : Result (Option Why) Memory) → (inside ≡ false → new ≡ old) → (inside ≡ true → OnOk result (new.past ≡ past)) → OnErr result (new ≡ old) → P old → (new.past ≡ past → P new) → P new
+always_case : (P : MachineView → Type 0) (past : List Event) (old new : MachineView) (inside : Bool) (result : Result (Option Why) Memory) → (inside ≡ false → new ≡ old) → (inside ≡ true → OnOk result (new.past ≡ past)) → OnErr result (new ≡ old) → P old → (new.past ≡ past → P new) → P new
 always_case P past old new false result stays appended err same then = subst P (sym (stays refl)) same
 always_case P past old new true result stays appended err same then = inside_case P past old new result (appended refl) err same then
 
 -- what held before, and holds behind the exit's events, holds whatever came of the exit
-pub always : (P : List Event → Type 0) (guest : Guest) (v : ℕ) (old new : State) (result : Result (Option Why) Memory) → ExitOf guest v old new result → P old.past → P (after_exit guest v old.past) → P new.past
+pub always : (P : List Event → Type 0) (guest : Guest) (v : ℕ) (old new : MachineView) (result : Result (Option Why) Memory) → ExitOf guest v old new result → P old.past → P (after_exit guest v old.past) → P new.past
 always P guest v old new result exit same then =
-    always_case (λ (s : State). P s.past) (after_exit guest v old.past) old new (in_guest v old.past) result exit.stays exit.appended exit.err same
+    always_case (λ (s : MachineView). P s.past) (after_exit guest v old.past) old new (in_guest v old.past) result exit.stays exit.appended exit.err same
     (λ is. subst P (sym is) then)
 
 ok_holds : (result : Result (Option Why) Memory) (P : Type 0) → P → OnOk result P
@@ -54,16 +54,16 @@ ok_holds (Err memory) P h = tt
 out_after : (guest : Guest) (v : ℕ) (past : List Event) → in_guest v (after_exit guest v past) ≡ false
 out_after guest v past = rw (eq-eqb v v refl) refl
 
-left_case : (guest : Guest) (v : ℕ) (old new : State) (inside : Bool) (result : Result (Option Why) Memory) → in_guest v old.past ≡ inside → (inside ≡ false → new ≡ old) → (inside ≡ true → OnOk result (new.past ≡ after_exit guest v old.past)) → OnOk result (in_guest v new.past ≡ false)
+left_case : (guest : Guest) (v : ℕ) (old new : MachineView) (inside : Bool) (result : Result (Option Why) Memory) → in_guest v old.past ≡ inside → (inside ≡ false → new ≡ old) → (inside ≡ true → OnOk result (new.past ≡ after_exit guest v old.past)) → OnOk result (in_guest v new.past ≡ false)
 left_case guest v old new false result is stays appended =
-    ok_holds result (in_guest v new.past ≡ false) (subst (λ (s : State). in_guest v s.past ≡ false) (sym (stays refl)) is)
+    ok_holds result (in_guest v new.past ≡ false) (subst (λ (s : MachineView). in_guest v s.past ≡ false) (sym (stays refl)) is)
 left_case guest v old new true result is stays appended =
     on_ok_weaker result (λ same. subst (λ (xs : List Event). in_guest v xs ≡ false) (sym same) (out_after guest v old.past)) (appended refl)
 
 equal_case : (o p n : ℕ) → o - p ≡ 0 → p ≤ o → n ≡ p → n ≡ o
 equal_case o p n a b c = omega arith
 
-module _ {guest : Guest} {v : ℕ} {old new : State} {result : Result (Option Why) Memory} (exit : ExitOf guest v old new result) where
+module _ {guest : Guest} {v : ℕ} {old new : MachineView} {result : Result (Option Why) Memory} (exit : ExitOf guest v old new result) where
   -- the vCPU is outside the guest
   pub exit_left : OnOk result (in_guest v new.past ≡ false)
   exit_left = left_case guest v old new (in_guest v old.past) result refl exit.stays exit.appended

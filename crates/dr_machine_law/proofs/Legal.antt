@@ -8,9 +8,9 @@ use Rattle.dr_history.specs.Entries.{used}
 use Rattle.dr_history.specs.Kinds.{is_opened_of}
 use Rattle.dr_history.specs.Legality.{IsLegal}
 use Rattle.dr_history.specs.Rules.{owes_write, last_owes_write}
-use Rattle.dr_law.specs.Order.{last_opens_for}
-use Rattle.dr_law.specs.Room.{unpushed, room}
-use Rattle.dr_law.proofs.Room.{stays_in_room}
+use Rattle.dr_history_law.specs.Order.{last_opens_for}
+use Rattle.dr_history_law.specs.Room.{unpushed, room}
+use Rattle.dr_history_law.proofs.Room.{stays_in_room}
 
 not_opened : (v : ℕ) (e : Event) → owes_write e ≡ false → is_opened_of v e ≡ false
 not_opened v (Opened w k page) h = absurd (true≢false h)

@@ -9,4 +9,4 @@ pub mod Outside
 pub mod Leaving
 pub mod Beginning
 pub mod Reaping
-pub mod Stepping
+pub mod Advancing

@@ -13,15 +13,15 @@ use Rattle.dr_history.specs.Legality.{IsLegal}
 use Rattle.dr_history.specs.Memory.{page_bytes}
 use Rattle.dr_history.specs.Protection.{started, writable, cached, closing}
 use Rattle.dr_history.specs.Vcpus.{halted, in_guest}
-use Rattle.dr_law.specs.Room.{unpushed, room}
-use Rattle.dr_law.proofs.Caches.{cached_page}
-use Rattle.dr_law.proofs.Room.{room_in_ring}
-use Rattle.dr_may.proofs.Running.{has_operation}
+use Rattle.dr_history_law.specs.Room.{unpushed, room}
+use Rattle.dr_history_law.proofs.Caches.{cached_page}
+use Rattle.dr_history_law.proofs.Room.{room_in_ring}
+use Rattle.dr_event_law.proofs.Running.{has_operation}
 use Rattle.dr_turns.specs.declared.answers.Turn.{Turn}
 use Rattle.dr_turns.specs.Turns.{refusal, after_op}
-use Rattle.dr_turns.proofs.Buffers.{valid_ring}
-use Rattle.dr_turns.proofs.Operations.{valid_ends, valid_some}
-use Rattle.dr_machine.specs.States.{State}
+use Rattle.dr_turns_law.proofs.Buffers.{valid_ring}
+use Rattle.dr_turns_law.proofs.Operations.{valid_ends, valid_some}
+use Rattle.dr_machine.specs.Views.{MachineView}
 use Rattle.dr_machine_law.specs.Turns.{Executes, next_page, WritesLogged}
 use Rattle.dr_machine_law.proofs.Executed.{started_after, ops_after, others_after, inside_after}
 use Rattle.dr_machine_law.proofs.Legal.{legal_room}
@@ -29,7 +29,7 @@ use Rattle.dr_machine_law.proofs.Writing.{bytes_after}
 use Rattle.dr_machine_law.proofs.Caching.{cached_after, writable_after}
 
 -- what a machine says of a vCPU's turn
-pub record TurnOf (guest : Guest) (v : ℕ) (old new : State) (result : Result Turn Memory) : Type 0 where
+pub record TurnOf (guest : Guest) (v : ℕ) (old new : MachineView) (result : Result Turn Memory) : Type 0 where
   pub vcpu : v < vcpu_count guest
   pub valid : IsValid guest
   pub before : IsLegal guest old.past
@@ -38,19 +38,19 @@ pub record TurnOf (guest : Guest) (v : ℕ) (old new : State) (result : Result T
   pub appended : Executes guest v old → OnOk result (new.past ≡ after_op guest v old.past)
   pub err : OnErr result (new ≡ old)
 
-always_case : (P : State → Type 0) (past : List Event) (old new : State) (why : Option Turn) (result : Result Turn Memory) → IfSome why (λ turn. new ≡ old) → (why ≡ None → OnOk result (new.past ≡ past)) → OnErr result (new ≡ old) → P old → (new.past ≡ past → P new) → P new
+always_case : (P : MachineView → Type 0) (past : List Event) (old new : MachineView) (why : Option Turn) (result : Result Turn Memory) → IfSome why (λ turn. new ≡ old) → (why ≡ None → OnOk result (new.past ≡ past)) → OnErr result (new ≡ old) → P old → (new.past ≡ past → P new) → P new
 always_case P past old new (Some turn) result stays appended err same then = subst P (sym stays) same
 always_case P past old new None (Ok turn) stays appended err same then = then (appended refl)
 always_case P past old new None (Err memory) stays appended err same then = subst P (sym err) same
 
 -- what held before, and holds behind the turn's events, holds whatever came of the turn
-pub always : (P : List Event → Type 0) (guest : Guest) (v : ℕ) (old new : State) (result : Result Turn Memory) → TurnOf guest v old new result → P old.past → P (after_op guest v old.past) → P new.past
+pub always : (P : List Event → Type 0) (guest : Guest) (v : ℕ) (old new : MachineView) (result : Result Turn Memory) → TurnOf guest v old new result → P old.past → P (after_op guest v old.past) → P new.past
 always P guest v old new result turn same then =
-    always_case (λ (s : State). P s.past) (after_op guest v old.past) old new (refusal guest old.over v old.past) result turn.stays turn.appended turn.err same
+    always_case (λ (s : MachineView). P s.past) (after_op guest v old.past) old new (refusal guest old.over v old.past) result turn.stays turn.appended turn.err same
     (λ is. subst P (sym is) then)
 
 -- what holds behind the turn's events holds where the vCPU has executed
-pub executing : (P : List Event → Type 0) (guest : Guest) (v : ℕ) (old new : State) (result : Result Turn Memory) → TurnOf guest v old new result → Executes guest v old → P (after_op guest v old.past) → OnOk result (P new.past)
+pub executing : (P : List Event → Type 0) (guest : Guest) (v : ℕ) (old new : MachineView) (result : Result Turn Memory) → TurnOf guest v old new result → Executes guest v old → P (after_op guest v old.past) → OnOk result (P new.past)
 executing P guest v old new result turn free then = on_ok_weaker result (λ is. subst P (sym is) then) (turn.appended free)
 
 none_case : {X : Type 0} (b : Bool) (t : X) (rest : Option X) → cond b (Some t) rest ≡ None → (b ≡ false) × (rest ≡ None)
@@ -58,12 +58,12 @@ none_case true t rest h = cc
 none_case false t rest h = (refl, h)
 
 -- a vCPU that executes has an op to go
-pub has_op : (guest : Guest) (v : ℕ) (old new : State) (result : Result Turn Memory) → TurnOf guest v old new result → Executes guest v old → is_some (operation guest v (ops v old.past)) ≡ true
+pub has_op : (guest : Guest) (v : ℕ) (old new : MachineView) (result : Result Turn Memory) → TurnOf guest v old new result → Executes guest v old → is_some (operation guest v (ops v old.past)) ≡ true
 has_op guest v old new result turn free =
     let going = none_case (halted v old.past) _ _ (none_case old.over _ _ free).1 in
     has_operation guest old.past v (valid_ends guest turn.valid) (valid_some guest v turn.valid turn.vcpu) turn.before.0 going.0
 
-module _ {guest : Guest} {v : ℕ} {old new : State} {result : Result Turn Memory} (turn : TurnOf guest v old new result) where
+module _ {guest : Guest} {v : ℕ} {old new : MachineView} {result : Result Turn Memory} (turn : TurnOf guest v old new result) where
   -- Start stands where it stood
   pub op_started : started new.past ≡ started old.past
   op_started = always (λ (xs : List Event). started xs ≡ started old.past) guest v old new result turn refl (started_after guest v old.past)

@@ -10,10 +10,10 @@ use Rattle.dr_history.specs.Entries.{opens, pushes}
 use Rattle.dr_history.specs.Legality.{IsLegalSoFar}
 use Rattle.dr_history.specs.Rules.{exits_with_reason}
 use Rattle.dr_history.specs.Vcpus.{in_guest, kicked}
-use Rattle.dr_law.specs.Order.{last_opens_for}
-use Rattle.dr_law.specs.Room.{unpushed}
-use Rattle.dr_law.proofs.Kept.{keeps}
-use Rattle.dr_law.proofs.Order.{unowed, open_count, none_owed}
+use Rattle.dr_history_law.specs.Order.{last_opens_for}
+use Rattle.dr_history_law.specs.Room.{unpushed}
+use Rattle.dr_history_law.proofs.Kept.{keeps}
+use Rattle.dr_history_law.proofs.Order.{unowed, open_count, none_owed}
 
 left_case : (same inside kicks : Bool) → (inside ≡ false → kicks ≡ false) → cond same false inside ≡ false → cond same false kicks ≡ false
 left_case true inside kicks f h = refl

@@ -5,7 +5,7 @@ use Rattle.dr_types.specs.declared.guest.Guest.{Guest}
 use Rattle.dr_history.specs.declared.event.Event.{Event}
 use Rattle.dr_history.specs.declared.event.Event.TheVariants.{Pushed}
 use Rattle.dr_history.specs.Entries.{pushes}
-use Rattle.dr_law.specs.Room.{unpushed}
+use Rattle.dr_history_law.specs.Room.{unpushed}
 use Rattle.dr_turns.specs.Buffers.{pushed_behind, all_pushed, pushed_where_full}
 
 -- what no Pushed ends holds behind any number of them

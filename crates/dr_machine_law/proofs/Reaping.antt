@@ -15,11 +15,11 @@ use Rattle.dr_history.specs.Legality.{IsLegalSoFar}
 use Rattle.dr_history.specs.Lookback.{is_number}
 use Rattle.dr_history.specs.Protection.{closing}
 use Rattle.dr_history.specs.Rules.{deposits_entry}
-use Rattle.dr_law.proofs.Outstanding.{deposited_pushed}
-use Rattle.dr_reaps.proofs.Done.{none_any}
+use Rattle.dr_history_law.proofs.Outstanding.{deposited_pushed}
+use Rattle.dr_turns_law.proofs.Done.{none_any}
 use Rattle.dr_ring.specs.Seats.{KernelView}
-use Rattle.dr_rings.specs.Seated.{IfAt}
-use Rattle.dr_seats.specs.Seats.{AreSeats}
+use Rattle.dr_ring_set.specs.Seated.{IfAt}
+use Rattle.dr_seat_law.specs.Seats.{AreSeats}
 use Rattle.dr_turns.specs.Due.{some_closing}
 
 -- the numbers of a batch are deposited

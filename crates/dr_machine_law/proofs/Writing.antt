@@ -16,9 +16,9 @@ use Rattle.dr_history.specs.Execution.{ops, acc}
 use Rattle.dr_history.specs.Lookback.{is_number}
 use Rattle.dr_history.specs.Memory.{page_bytes, page_after, filled, overwritten}
 use Rattle.dr_history.specs.Protection.{started, writable, cached}
-use Rattle.dr_may.specs.Operations.{op_event, op_page, page_or_zero, OpFits}
+use Rattle.dr_event_law.specs.Operations.{op_event, op_page, page_or_zero, OpFits}
 use Rattle.dr_turns.specs.Turns.{event_behind, op_behind, executed, after_op}
-use Rattle.dr_turns.proofs.Executing.{op_fits}
+use Rattle.dr_turns_law.proofs.Executing.{op_fits}
 use Rattle.dr_machine_law.specs.Turns.{page_of_op, next_page}
 use Rattle.dr_machine_law.proofs.Pushing.{by_full}
 

@@ -1,4 +1,4 @@
--- What the migrator's first step answers.
+-- What the first advance answers.
 use Rattle.std.specs.Prelude.{◌≡◌, ◌<◌, ℕ, true, false, List}
 use Rattle.dr_types.specs.declared.guest.Guest.{Guest}
 use Rattle.dr_types.specs.Scripts.{vcpu_count}
@@ -20,4 +20,4 @@ pub record IsFirstUnpaced (guest : Guest) (past : List Event) (v done : ℕ) : T
 abbrev pub BeginsOrWaits : Guest → List Event → Advance → Type 0
 BeginsOrWaits guest past Started = (v : ℕ) → v < vcpu_count guest → paced guest v past past ≡ true
 BeginsOrWaits guest past (NotPaced v done) = IsFirstUnpaced guest past v done
-BeginsOrWaits guest past step = ⊥
+BeginsOrWaits guest past due = ⊥

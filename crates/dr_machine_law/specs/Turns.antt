@@ -6,12 +6,12 @@ use Rattle.dr_types.specs.Scripts.{operation}
 use Rattle.dr_history.specs.declared.event.Event.{Event}
 use Rattle.dr_history.specs.Execution.{ops}
 use Rattle.dr_history.specs.Protection.{started}
-use Rattle.dr_may.specs.Operations.{op_page}
+use Rattle.dr_event_law.specs.Operations.{op_page}
 use Rattle.dr_turns.specs.Turns.{refusal}
-use Rattle.dr_machine.specs.States.{State}
+use Rattle.dr_machine.specs.Views.{MachineView}
 
 -- in this state nothing refuses the vCPU its turn, so it executes its next op
-abbrev pub Executes : Guest → ℕ → State → Type 0
+abbrev pub Executes : Guest → ℕ → MachineView → Type 0
 Executes guest v state = refusal guest state.over v state.past ≡ None
 
 -- the page that an op writes, where there is an op
@@ -24,7 +24,7 @@ abbrev pub next_page : Guest → ℕ → List Event → Option ℕ
 next_page guest v past = page_of_op guest (operation guest v (ops v past))
 
 -- logging has begun, and the vCPU executes an op that writes this page
-pub record WritesLogged (guest : Guest) (v page : ℕ) (state : State) : Type 0 where
+pub record WritesLogged (guest : Guest) (v page : ℕ) (state : MachineView) : Type 0 where
   pub executes : Executes guest v state
   pub place : next_page guest v state.past ≡ Some page
   pub begun : started state.past ≡ true

@@ -5,12 +5,12 @@ ghost use Rattle.dr_history.specs.Execution.{ops};
 ghost use Rattle.dr_history.specs.Memory.{page_bytes};
 ghost use Rattle.dr_history.specs.Protection.{started};
 ghost use Rattle.dr_history.specs.Vcpus.{in_guest, kicked};
-ghost use Rattle.dr_law.specs.Room.{unpushed};
-ghost use Rattle.dr_rings.specs.Seated.{IfAt};
+ghost use Rattle.dr_history_law.specs.Room.{unpushed};
+ghost use Rattle.dr_ring_set.specs.Seated.{IfAt};
 
 use dr_machine::Machine;
 use dr_ring::Name;
-use dr_rings::Rings;
+use dr_ring_set::Rings;
 use dr_types::{Memory, Why};
 
 /// A vCPU leaves the guest, if it is inside, and tells why.
@@ -21,7 +21,7 @@ pub fn exit<N: Name>(
 ) -> Result<Option<Why>, Memory>
     requires { v < vcpu_count N.guest }
     ensures outside { in_guest v machine.old.past ≡ false → machine.new ≡ machine.old }
-    ensures left { OnOk result (in_guest v machine.new.past ≡ false) }
+    ensures leaves { OnOk result (in_guest v machine.new.past ≡ false) }
     ensures unkicked { OnOk result (kicked v machine.new.past ≡ false) }
     ensures pushed { OnOk result (unpushed v machine.new.past ≡ 0) }
     ensures seat { OnOk result
@@ -32,6 +32,6 @@ pub fn exit<N: Name>(
         → page_bytes N.guest page machine.new.past ≡ page_bytes N.guest page machine.old.past }
 {
     let why = machine.exit(rings, v);
-    machine.keeps();
+    machine.recall_kept();
     why
 }

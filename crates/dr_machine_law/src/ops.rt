@@ -5,12 +5,12 @@ ghost use Rattle.dr_history.specs.Execution.{ops};
 ghost use Rattle.dr_history.specs.Memory.{page_bytes};
 ghost use Rattle.dr_history.specs.Protection.{started, writable, cached, closing};
 ghost use Rattle.dr_history.specs.Vcpus.{in_guest};
-ghost use Rattle.dr_law.specs.Room.{unpushed, room};
+ghost use Rattle.dr_history_law.specs.Room.{unpushed, room};
 ghost use Rattle.dr_machine_law.specs.Turns.{Executes, next_page, WritesLogged};
 
 use dr_machine::Machine;
 use dr_ring::Name;
-use dr_rings::Rings;
+use dr_ring_set::Rings;
 use dr_turns::Turn;
 use dr_types::Memory;
 
@@ -36,9 +36,9 @@ pub fn op<N: Name>(machine: &mut Machine<N>, rings: &Rings<N>, v: u32) -> Result
         → used u machine.new.past + unpushed u machine.new.past ≤ room N.guest }
     ensures place { (u : ℕ) → used u machine.new.past < N.guest.settings.ring }
 {
-    machine.keeps();
+    machine.recall_kept();
     machine.guest();
     let turn = machine.op(rings, v);
-    machine.keeps();
+    machine.recall_kept();
     turn
 }

@@ -1,17 +1,18 @@
-ghost use Rattle.std.specs.Prelude.{◌≡◌, ◌≢◌, ℕ, ◌+◌, ◌<◌, ◌≤◌, true, false, length, Ok, IfOk, IfSome, OnOk};
+ghost use Rattle.std.specs.Prelude.{◌≡◌, ◌≢◌, ℕ, ◌+◌, ◌<◌, ◌≤◌, true, false, length, Ok, IfOk};
+ghost use Rattle.std.specs.Prelude.{IfSome, OnOk};
 ghost use Rattle.std.specs.List.{list_any};
 ghost use Rattle.dr_types.specs.Scripts.{vcpu_count};
 ghost use Rattle.dr_history.specs.Dirty.{dirty};
 ghost use Rattle.dr_history.specs.Entries.{page_of_entry, pushes, resets};
 ghost use Rattle.dr_history.specs.Protection.{cached, closing};
 ghost use Rattle.dr_history.specs.Rules.{deposits_entry};
-ghost use Rattle.dr_reaps.specs.Deposits.{next_deposited};
-ghost use Rattle.dr_rings.specs.Seated.{IfAt};
+ghost use Rattle.dr_turns_law.specs.Deposits.{next_deposited};
+ghost use Rattle.dr_ring_set.specs.Seated.{IfAt};
 ghost use Rattle.dr_turns.specs.Due.{some_closing};
 
 use dr_machine::{DepositFault, Machine};
 use dr_ring::Name;
-use dr_rings::{Batch, Rings};
+use dr_ring_set::{Batch, Rings};
 use dr_types::Memory;
 
 /// Deposits a batch: its entries are pushed, deposited, and known to be harvested.
@@ -21,7 +22,8 @@ pub fn deposit<N: Name>(
     batch: Batch<N>,
 ) -> Result<(), DepositFault<N>>
     requires { 0 < length batch.entries }
-    ensures deposited { OnOk result ((k : ℕ) → batch.first ≤ k → k < batch.first + length batch.entries
+    ensures deposited { OnOk result ((k : ℕ) → batch.first ≤ k
+        → k < batch.first + length batch.entries
         → list_any (deposits_entry batch.vcpu k) machine.new.past ≡ true) }
     ensures pushed { let to = batch.first + length batch.entries in
         OnOk result (to ≤ pushes batch.vcpu machine.new.past) }
@@ -29,7 +31,7 @@ pub fn deposit<N: Name>(
         OnOk result (IfAt machine.new.seats batch.vcpu (λ s. to ≤ s.known)) }
 {
     let answer = machine.deposit(rings, batch);
-    machine.keeps();
+    machine.recall_kept();
     answer
 }
 
@@ -51,7 +53,7 @@ pub fn reset_turn<N: Name>(
         → OnOk result (IfSome page (λ p. closing p machine.new.past ≡ true)) }
 {
     let count = machine.reset_turn(rings, v);
-    machine.keeps();
+    machine.recall_kept();
     count
 }
 

@@ -4,8 +4,8 @@ ghost use Rattle.dr_history.specs.Memory.{page_bytes};
 ghost use Rattle.dr_history.specs.Protection.{started, writable};
 ghost use Rattle.dr_machine_law.specs.Beginning.{BeginsOrWaits};
 
-use dr_bytes::PageBytes;
 use dr_machine::Machine;
+use dr_memory::PageBytes;
 use dr_ring::Name;
 use dr_turns::Advance;
 use dr_types::Memory;
@@ -17,7 +17,7 @@ pub fn start<N: Name>(
     into: &mut PageBytes,
 ) -> Result<Advance, Memory>
     requires { started machine.old.past ≡ false }
-    ensures answer { IfOk result (λ step. BeginsOrWaits N.guest machine.old.past step) }
+    ensures answer { IfOk result (λ due. BeginsOrWaits N.guest machine.old.past due) }
     ensures begun { result ≡ Ok Advance.Started → started machine.new.past ≡ true }
     ensures dirty { result ≡ Ok Advance.Started → (page : ℕ) → dirty page machine.new.past ≡ true }
     ensures protected { result ≡ Ok Advance.Started
@@ -27,6 +27,6 @@ pub fn start<N: Name>(
     ensures bytes { (page : ℕ)
         → page_bytes N.guest page machine.new.past ≡ page_bytes N.guest page machine.old.past }
 {
-    machine.keeps();
+    machine.recall_kept();
     machine.advance(now, into)
 }

@@ -3,11 +3,11 @@ ghost use Rattle.dr_types.specs.Scripts.{vcpu_count};
 ghost use Rattle.dr_types.specs.Validity.{IsValid};
 ghost use Rattle.dr_history.specs.Protection.{started};
 
-use dr_bytes::PageBytes;
 use dr_machine::{Advance, Machine, Rig, RunEnd, Turn, new_rig};
 use dr_machine_law::op;
+use dr_memory::PageBytes;
 use dr_ring::Name;
-use dr_rings::{RingSet, Rings};
+use dr_ring_set::{RingSet, Rings};
 use dr_types::{Guest, Memory, Step, Why};
 use std::alloc::Global;
 
@@ -44,7 +44,7 @@ fn answers_for<N: Name>(
     call: Call,
 ) -> Result<bool, Memory> {
     let vcpus = rings.vcpus();
-    machine.keeps();
+    machine.recall_kept();
     match call {
         Call::Op(v, turn) if v < vcpus => Ok(machine.op(rings, v)? == turn),
         Call::Exit(v, why) if v < vcpus => Ok(machine.exit(rings, v)? == why),
@@ -129,7 +129,7 @@ fn run<N: Name>(
     if rig.rings.vcpus() == 0 {
         return Ok(false);
     }
-    rig.machine.keeps();
+    rig.machine.recall_kept();
     let begun = starts(rig, early)?;
     let answered = all_answer(rig, calls)?;
     let ended = ends_with(alloc, rig, lines)?;

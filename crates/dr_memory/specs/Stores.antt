@@ -1,5 +1,6 @@
 -- What a store of pages shows.
-use Rattle.std.specs.Prelude.{ℕ, Bool, true, false, List, [], Option, Some, None, map, is_some, slice_index_or, slice_set}
+use Rattle.std.specs.Prelude.{ℕ, Bool, true, false, List, [], Option, Some, None, map, is_some}
+use Rattle.std.specs.Prelude.{slice_index_or, slice_set}
 use Rattle.dr_history.specs.Memory.{filled}
 
 -- the bytes of each page, and which pages have memory of their own

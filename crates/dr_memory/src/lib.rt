@@ -2,8 +2,10 @@
 #![tactic(auto)]
 
 mod own_page;
+mod page_bytes;
 mod store;
 #[cfg(test)]
 mod tests;
 
+pub use page_bytes::PageBytes;
 pub use store::PageStore;

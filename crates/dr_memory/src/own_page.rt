@@ -4,7 +4,7 @@ ghost use Rattle.std.specs.Prelude.{◌≡◌, ◌+◌, ◌≤◌, take, IfOk};
 ghost use Rattle.std.specs.Int.{w64, to_le_bytes};
 ghost use Rattle.dr_history.specs.Memory.{filled, overwritten};
 
-use dr_bytes::PageBytes;
+use crate::page_bytes::PageBytes;
 use dr_types::Memory;
 use std::alloc::Global;
 use std::marker::Model;

@@ -1,10 +1,11 @@
-ghost use Rattle.std.specs.Prelude.{◌≡◌, ◌+◌, ◌<◌, ◌≤◌, true, false, length, take, replicate, Some, IfOk, OnOk, OnErr};
+ghost use Rattle.std.specs.Prelude.{◌≡◌, ◌+◌, ◌<◌, ◌≤◌, true, false, length, take, replicate, Some};
+ghost use Rattle.std.specs.Prelude.{IfOk, OnOk, OnErr};
 ghost use Rattle.std.specs.Int.{w64, to_le_bytes};
 ghost use Rattle.dr_history.specs.Memory.{filled, overwritten, loaded};
 ghost use Rattle.dr_memory.specs.Stores.{has_room, bytes_of, with_bytes, with_room, held_bytes};
 
 use crate::own_page::OwnPage;
-use dr_bytes::PageBytes;
+use crate::page_bytes::PageBytes;
 use dr_types::Memory;
 use std::alloc::Global;
 use std::marker::Model;

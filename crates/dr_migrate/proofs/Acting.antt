@@ -13,18 +13,18 @@ use Rattle.dr_history.specs.Vcpus.{in_guest, is_full}
 use Rattle.dr_turns.specs.Due.{advanced}
 use Rattle.dr_turns.specs.Turns.{after_op, after_exit}
 use Rattle.dr_turns.specs.declared.answers.Advance.TheVariants as advance
-use Rattle.dr_schedule.specs.Reaps.{AreDepositedUpTo, Extends, reaped}
-use Rattle.dr_schedule.specs.Schedule.{CutAtTurn, exited, reaps_after_full}
-use Rattle.dr_schedule.specs.Waiting.{AwaitsOp}
-use Rattle.dr_schedule.proofs.Cutting.{own_is_reaped}
-use Rattle.dr_schedule.proofs.Exiting.{exited_inside, exited_outside, inside_after_op}
-use Rattle.dr_schedule.proofs.Extending.{extends_longer, reap_extends}
-use Rattle.dr_schedule.proofs.Progress.{op_more, exit_more, reap_more_when_full}
-use Rattle.dr_schedule.proofs.Scheduled.{follows_still, follows_cut, op_follows, halt_follows, full_follows, op_cut, full_cut}
-use Rattle.dr_schedule.proofs.Telling.{has_op}
-use Rattle.dr_schedule.proofs.Timing.{op_times, exited_times, reap_times}
+use Rattle.dr_schedule_law.specs.Reaps.{AreDepositedUpTo, Extends, reaped}
+use Rattle.dr_schedule_law.specs.Schedule.{CutAtTurn, exited, reaps_after_full}
+use Rattle.dr_schedule_law.specs.Waiting.{AwaitsOp}
+use Rattle.dr_schedule_law.proofs.Cutting.{own_is_reaped}
+use Rattle.dr_schedule_law.proofs.Exiting.{exited_inside, exited_outside, inside_after_op}
+use Rattle.dr_schedule_law.proofs.Extending.{extends_longer, reap_extends}
+use Rattle.dr_schedule_law.proofs.Progress.{op_more, exit_more, reap_more_when_full}
+use Rattle.dr_schedule_law.proofs.Scheduled.{follows_still, follows_cut, op_follows, halt_follows, full_follows, op_cut, full_cut}
+use Rattle.dr_schedule_law.proofs.Telling.{has_op}
+use Rattle.dr_schedule_law.proofs.Timing.{op_times, exited_times, reap_times}
 use Rattle.dr_migrate.specs.Driving.{Acts, ActsInPart, Breaks, Moves}
-use Rattle.dr_migrate.specs.Leaving.{LeftInPart}
+use Rattle.dr_migrate.specs.Leaving.{ExitedInPart}
 
 -- the times of events behind others
 times_append : (xs ys : List Event) → times (xs ++ ys) ≡ times xs ++ times ys
@@ -59,7 +59,7 @@ pub record WaitsForOp (guest : Guest) (now v done : ℕ) (past : List Event) (st
   pub legal : IsLegalSoFar guest past
   pub answer : (advanced guest now past).0 ≡ advance.NotPaced v done
   pub awaits : AwaitsOp guest past v
-  pub in_step : AreDepositedUpTo guest starts past
+  pub all_deposited : AreDepositedUpTo guest starts past
 
 full_more : (guest : Guest) (now v done : ℕ) (past : List Event) (starts : ℕ → ℕ) → WaitsForOp guest now v done past starts → is_full guest v past ≡ true
     → length past < length (reaped guest (reaps_after_full guest v) (exited guest v past))
@@ -71,7 +71,7 @@ full_more guest now v done past starts it full =
     let on : length (after_exit guest v past) ≤ length (reaped guest whose (after_exit guest v past)) =
     extends_longer (after_exit guest v past) (reaped guest whose (after_exit guest v past)) (reap_extends guest whose (after_exit guest v past)) in
     rw (exited_inside guest v past inside) (omega (arith, left, on)))
-    (λ out. rw (exited_outside guest v past out) (reap_more_when_full guest whose starts past v it.valid it.legal it.in_step it.awaits.vcpu (own_is_reaped guest v) full))
+    (λ out. rw (exited_outside guest v past out) (reap_more_when_full guest whose starts past v it.valid it.legal it.all_deposited it.awaits.vcpu (own_is_reaped guest v) full))
 
 moves_full : (guest : Guest) (now v done : ℕ) (old new : List Event) (starts : ℕ → ℕ) → WaitsForOp guest now v done old starts → is_full guest v old ≡ true
     → new ≡ reaped guest (reaps_after_full guest v) (exited guest v old) → Moves guest old new
@@ -144,7 +144,7 @@ part_breaks guest old mid new whole cut first same begun within = record {
 }
 
 full_breaks : (guest : Guest) (now v done : ℕ) (old new : List Event) (starts : ℕ → ℕ)
-    → WaitsForOp guest now v done old starts → is_full guest v old ≡ true → LeftInPart guest v old new
+    → WaitsForOp guest now v done old starts → is_full guest v old ≡ true → ExitedInPart guest v old new
     → Breaks guest old new
 full_breaks guest now v done old new starts it full (inl none) = none_breaks guest old new none
 full_breaks guest now v done old new starts it full (inr part) =

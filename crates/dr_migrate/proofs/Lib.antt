@@ -1,4 +1,5 @@
-pub mod Stepped
+pub mod StillDeposited
 pub mod Acting
 pub mod Waiting
 pub mod Running
+pub mod Used

@@ -9,14 +9,14 @@ use Rattle.dr_history.specs.Times.{times}
 use Rattle.dr_turns.specs.Due.{advanced}
 use Rattle.dr_turns.specs.Turns.{after_exit}
 use Rattle.dr_turns.specs.declared.answers.Advance.TheVariants as advance
-use Rattle.dr_schedule.specs.Reaps.{AreDepositedUpTo, Extends, reaped}
-use Rattle.dr_schedule.specs.Schedule.{exited}
-use Rattle.dr_schedule.proofs.Cutting.{unreset_more}
-use Rattle.dr_schedule.proofs.Exiting.{exited_inside}
-use Rattle.dr_schedule.proofs.Progress.{exit_more}
-use Rattle.dr_schedule.proofs.Scheduled.{exit_follows, reap_follows, flush_follows, reap_cut}
-use Rattle.dr_schedule.proofs.Telling.{not_out, not_reset}
-use Rattle.dr_schedule.proofs.Timing.{exited_times, reap_times}
+use Rattle.dr_schedule_law.specs.Reaps.{AreDepositedUpTo, Extends, reaped}
+use Rattle.dr_schedule_law.specs.Schedule.{exited}
+use Rattle.dr_schedule_law.proofs.Cutting.{unreset_more}
+use Rattle.dr_schedule_law.proofs.Exiting.{exited_inside}
+use Rattle.dr_schedule_law.proofs.Progress.{exit_more}
+use Rattle.dr_schedule_law.proofs.Scheduled.{exit_follows, reap_follows, flush_follows, reap_cut}
+use Rattle.dr_schedule_law.proofs.Telling.{not_out, not_reset}
+use Rattle.dr_schedule_law.proofs.Timing.{exited_times, reap_times}
 use Rattle.dr_migrate.specs.Driving.{Breaks, Moves}
 use Rattle.dr_migrate.proofs.Acting.{part_breaks}
 
@@ -32,9 +32,9 @@ out_moves guest now v old new legal answer is =
 
 -- all rings were reaped
 pub reap_moves : (guest : Guest) (now v k : ℕ) (old new : List Event) (starts : ℕ → ℕ) → IsLegalSoFar guest old → AreDepositedUpTo guest starts old → (advanced guest now old).0 ≡ advance.NotReset v k → new ≡ reaped guest None old → Moves guest old new
-reap_moves guest now v k old new starts legal in_step answer is = rw is (record {
+reap_moves guest now v k old new starts legal all_deposited answer is = rw is (record {
   follows = reap_follows guest now old v k answer;
-  more = unreset_more guest starts old v k legal in_step (not_reset guest now old v k legal answer);
+  more = unreset_more guest starts old v k legal all_deposited (not_reset guest now old v k legal answer);
   timeless = reap_times guest None old;
 })
 

@@ -1,17 +1,17 @@
 ghost use Rattle.std.specs.Prelude.{◌≡◌, ◌<◌, ◌⊎◌, OnOk, OnErr};
 ghost use Rattle.dr_types.specs.Scripts.{vcpu_count};
 ghost use Rattle.dr_bench.specs.Bench.{SameOutlet};
-ghost use Rattle.dr_schedule.specs.Reaps.{Extends, reaped};
-ghost use Rattle.dr_schedule.specs.Schedule.{exited, reaps_after_full};
-ghost use Rattle.dr_settle.specs.Step.{AreInStep};
-ghost use Rattle.dr_migrate.specs.Leaving.{LeftInPart};
+ghost use Rattle.dr_schedule_law.specs.Reaps.{Extends, reaped};
+ghost use Rattle.dr_schedule_law.specs.Schedule.{exited, reaps_after_full};
+ghost use Rattle.dr_reap.specs.Harvests.{AllDeposited};
+ghost use Rattle.dr_migrate.specs.Leaving.{ExitedInPart};
 
 use crate::reaping::reap_after_full;
 use dr_bench::Bench;
 use dr_collector::Collector;
 use dr_io::{Clock, Outlet};
 use dr_ring::Name;
-use dr_rings::Rings;
+use dr_ring_set::Rings;
 use dr_types::Memory;
 use std::alloc::Global;
 
@@ -34,9 +34,9 @@ pub fn exit<N: Name, O: Outlet>(
     v: u32,
 ) -> Result<(), Memory>
     requires vcpu { v < vcpu_count N.guest }
-    requires in_step { AreInStep N.guest bench.old.past collector.now }
+    requires all_deposited { AllDeposited N.guest bench.old.past collector.now }
     ensures exited { OnOk result (bench.new.past ≡ exited N.guest v bench.old.past) }
-    ensures in_step { AreInStep N.guest bench.new.past collector.now }
+    ensures all_deposited { AllDeposited N.guest bench.new.past collector.now }
     ensures err { OnErr result (bench.new ≡ bench.old) }
     ensures over { bench.new.over ≡ bench.old.over }
     ensures outlet { SameOutlet bench.old bench.new }
@@ -55,14 +55,16 @@ pub fn leave_full<N: Name, O: Outlet, C: Clock>(
     v: u32,
 ) -> Result<(), Memory>
     requires vcpu { v < vcpu_count N.guest }
-    requires in_step { AreInStep N.guest bench.old.past collector.old }
-    ensures left { let whose = reaps_after_full N.guest v in
+    requires all_deposited { AllDeposited N.guest bench.old.past collector.old }
+    ensures leaves { let whose = reaps_after_full N.guest v in
         OnOk result (bench.new.past ≡ reaped N.guest whose (exited N.guest v bench.old.past)) }
-    ensures in_step { OnOk result (AreInStep N.guest bench.new.past collector.new) }
-    ensures part { OnErr result (LeftInPart N.guest v bench.old.past bench.new.past) }
+    ensures all_deposited { OnOk result (AllDeposited N.guest bench.new.past collector.new) }
+    ensures part { OnErr result (ExitedInPart N.guest v bench.old.past bench.new.past) }
     ensures over { bench.new.over ≡ bench.old.over }
     ensures outlet { SameOutlet bench.old bench.new }
 {
+    // It leaves first, so that its buffer is in the ring which is reaped; it sleeps last, with the
+    // ring empty, as in QEMU (`dirtylimit_vcpu_execute` comes after the reap).
     exit(bench, collector, rings, v)?;
     reap_after_full(alloc, bench, collector, rings, v)?;
     sleep(clock, bench.throttle_us(v));

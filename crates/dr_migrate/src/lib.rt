@@ -4,6 +4,6 @@
 mod leaving;
 mod reaping;
 mod run;
-mod steps;
+mod waits;
 
 pub use run::drive;

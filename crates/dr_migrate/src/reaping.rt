@@ -1,16 +1,16 @@
 ghost use Rattle.std.specs.Prelude.{◌≡◌, ◌<◌, OnOk, OnErr};
 ghost use Rattle.dr_types.specs.Scripts.{vcpu_count};
 ghost use Rattle.dr_bench.specs.Bench.{SameOutlet};
-ghost use Rattle.dr_schedule.specs.Reaps.{Extends, reaped};
-ghost use Rattle.dr_schedule.specs.Schedule.{reaps_after_full};
-ghost use Rattle.dr_settle.specs.Step.{AreInStep};
+ghost use Rattle.dr_schedule_law.specs.Reaps.{Extends, reaped};
+ghost use Rattle.dr_schedule_law.specs.Schedule.{reaps_after_full};
+ghost use Rattle.dr_reap.specs.Harvests.{AllDeposited};
 
 use dr_bench::Bench;
 use dr_collector::Collector;
 use dr_io::Outlet;
+use dr_reap::{reap_all, reap_one};
 use dr_ring::Name;
-use dr_rings::Rings;
-use dr_settle::{reap_all, reap_one};
+use dr_ring_set::Rings;
 use dr_types::Memory;
 use std::alloc::Global;
 
@@ -23,16 +23,18 @@ pub fn reap_after_full<N: Name, O: Outlet>(
     v: u32,
 ) -> Result<(), Memory>
     requires vcpu { v < vcpu_count N.guest }
-    requires in_step { AreInStep N.guest bench.old.past collector.old }
+    requires all_deposited { AllDeposited N.guest bench.old.past collector.old }
     ensures reaped { let whose = reaps_after_full N.guest v in
         OnOk result (bench.new.past ≡ reaped N.guest whose bench.old.past) }
-    ensures in_step { OnOk result (AreInStep N.guest bench.new.past collector.new) }
+    ensures all_deposited { OnOk result (AllDeposited N.guest bench.new.past collector.new) }
     ensures begun { OnErr result (Extends bench.old.past bench.new.past) }
     ensures part { let whose = reaps_after_full N.guest v in
         OnErr result (Extends bench.new.past (reaped N.guest whose bench.old.past)) }
     ensures over { bench.new.over ≡ bench.old.over }
     ensures outlet { SameOutlet bench.old bench.new }
 {
+    // As in QEMU where a dirty limit is in service: there a vCPU whose ring is full has that one
+    // reaped, so that it pays for its own writes; else all rings are.
     if bench.guest().settings.quota >= 1 {
         reap_one(bench, collector, rings, alloc, v)?;
     } else {

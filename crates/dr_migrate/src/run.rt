@@ -1,33 +1,33 @@
 ghost use Rattle.std.specs.Prelude.{◌≡◌, ◌<◌, ◌≤◌, ℕ, All, false, Some, None};
 ghost use Rattle.std.specs.Prelude.{IfOk, IfErr, OnOk, OnErr, length};
 ghost use Rattle.dr_history.specs.Times.{times};
-ghost use Rattle.dr_bound.specs.Bound.{most_events};
+ghost use Rattle.dr_schedule_law.specs.Bound.{most_events};
 ghost use Rattle.dr_bench.specs.Bench.{SameOutlet};
-ghost use Rattle.dr_schedule.specs.Schedule.{appends, Follows, CutAtTurn};
-ghost use Rattle.dr_schedule.specs.Timed.{MayAddTime};
+ghost use Rattle.dr_schedule_law.specs.Schedule.{appends, Follows, CutAtTurn};
+ghost use Rattle.dr_schedule_law.specs.Timed.{MayAddTime};
 ghost use Rattle.dr_turns.specs.Due.{advanced};
 ghost use Rattle.dr_migrate.specs.Driving.{AddsRead, GoesOn, HasAdvanced, IsEnd, SinkRises};
-ghost use Rattle.dr_migrate.specs.Driving.{Stepped, Waited, is_sink};
+ghost use Rattle.dr_migrate.specs.Driving.{MadeBlock, Waited, is_sink};
 
-use crate::steps::{appends, flush, kick_out, reap, run_vcpu};
+use crate::waits::{appends, flush, kick_out, reap, run_vcpu};
 use dr_bench::{Bench, BenchFault};
 use dr_collector::Collector;
 use dr_io::{Clock, Outlet};
 use dr_ring::Name;
-use dr_rings::Rings;
+use dr_ring_set::Rings;
 use dr_turns::{Advance, RunEnd};
 use dr_types::Memory;
 use std::alloc::Global;
 
-/// The migrator's step that is due.
+/// The advance that is due.
 fn advance<N: Name, O: Outlet>(
     bench: &mut Bench<N, O>,
     collector: &Collector<N>,
     now: u64,
 ) -> Result<Advance, BenchFault>
     requires going { GoesOn N.guest bench.old collector.now }
-    ensures advanced { IfOk result (λ step.
-        HasAdvanced N.guest now step bench.old.past bench.new.past) }
+    ensures advanced { IfOk result (λ due.
+        HasAdvanced N.guest now due bench.old.past bench.new.past) }
     ensures going { OnOk result (GoesOn N.guest bench.new collector.now) }
     ensures cut { OnErr result (CutAtTurn N.guest bench.old.past bench.new.past) }
     ensures times { MayAddTime now bench.old.past bench.new.past }
@@ -35,12 +35,12 @@ fn advance<N: Name, O: Outlet>(
     ensures risen { IfErr result (λ why. SinkRises why bench.old.faults bench.new.faults) }
     ensures later { bench.old.faults ≤ bench.new.faults }
 {
-    let step = bench.advance(now)?;
-    bench.keeps();
-    Ok(step)
+    let due = bench.advance(now)?;
+    bench.recall_kept();
+    Ok(due)
 }
 
-/// Does what a step of the migrator calls for that appended nothing. Answers where the run stands at
+/// Does what an advance calls for that appended nothing. Answers where the run stands at
 /// its end, and `None` where it goes on.
 fn wait<N: Name, O: Outlet, C: Clock>(
     alloc: Global,
@@ -49,18 +49,18 @@ fn wait<N: Name, O: Outlet, C: Clock>(
     rings: &Rings<N>,
     clock: &C,
     now: u64,
-    step: Advance,
+    due: Advance,
 ) -> Result<Option<RunEnd>, Memory>
-    requires answer { (advanced N.guest now bench.old.past).0 ≡ step }
-    requires waits { appends step ≡ false }
+    requires answer { (advanced N.guest now bench.old.past).0 ≡ due }
+    requires waits { appends due ≡ false }
     requires going { GoesOn N.guest bench.old collector.old }
     ensures waited { Waited N.guest result bench.old.past bench.new.past }
     ensures going { OnOk result (GoesOn N.guest bench.new collector.new) }
     ensures over { bench.new.over ≡ bench.old.over }
     ensures outlet { SameOutlet bench.old bench.new }
 {
-    bench.keeps();
-    match step {
+    bench.recall_kept();
+    match due {
         Advance::NotPaced { v, done } => {
             run_vcpu(alloc, bench, collector, rings, clock, now, v, done)?;
         }
@@ -79,9 +79,9 @@ fn wait<N: Name, O: Outlet, C: Clock>(
     Ok(None)
 }
 
-/// Does the step of the migrator that is due, or what it calls for. Answers where the run stands at
+/// Makes the advance that is due, or what it calls for. Answers where the run stands at
 /// its end, and `None` where it goes on.
-fn step<N: Name, O: Outlet, C: Clock>(
+fn make_block<N: Name, O: Outlet, C: Clock>(
     alloc: Global,
     bench: &mut Bench<N, O>,
     collector: &mut Collector<N>,
@@ -89,7 +89,7 @@ fn step<N: Name, O: Outlet, C: Clock>(
     clock: &C,
 ) -> Result<Option<RunEnd>, BenchFault>
     requires going { GoesOn N.guest bench.old collector.old }
-    ensures stepped { Stepped N.guest result bench.old.past bench.new.past }
+    ensures made_block { MadeBlock N.guest result bench.old.past bench.new.past }
     ensures going { OnOk result (GoesOn N.guest bench.new collector.new) }
     ensures sink { IfErr result (λ why. bench.new.failed ≡ is_sink why) }
     ensures risen { IfErr result (λ why. SinkRises why bench.old.faults bench.new.faults) }
@@ -97,24 +97,24 @@ fn step<N: Name, O: Outlet, C: Clock>(
     ensures times { AddsRead (C.reads clock.now) bench.old.past bench.new.past }
 {
     let now = clock.now_us();
-    let step = advance(bench, collector, now)?;
-    if appends(step) {
+    let due = advance(bench, collector, now)?;
+    if appends(due) {
         return Ok(None);
     }
-    let end = wait(alloc, bench, collector, rings, clock, now, step)?;
-    bench.keeps();
+    let end = wait(alloc, bench, collector, rings, clock, now, due)?;
+    bench.recall_kept();
     Ok(end)
 }
 
-/// Takes a bench to its end by the schedule: the migrator's step that is due is done again and again.
+/// Takes a bench to its end by the schedule: the advance that is due is done again and again.
 /// Where it waits for a vCPU to be paced, that vCPU executes its next op, and leaves behind a halt;
-/// with a full ring it leaves, its ring is reaped, or all are where there is no quota, and it sleeps
-/// for its throttle. A kicked vCPU leaves. Where entries are to be reset all rings are reaped; where
-/// pages are closing they are flushed. Each of these adds an event, and a guest has no more than
-/// `most_events`, so it comes to an end. After an `Err` bench, collector and rings are where the last
-/// turn that was made left them: at `Sink` what the migrator's step appended stands and the run is
-/// given up; at `Memory` the turn that found none changed nothing.
-#[tactic(auto, using(crate::proofs::Running::drive_begins, crate::proofs::Running::drive_continues, crate::proofs::Running::drive_ends, crate::proofs::Running::drive_cut, crate::proofs::Running::drive_times, crate::proofs::Running::drive_rises))]
+/// with a full ring it leaves, its ring is reaped, or all are where there is no quota, and it
+/// sleeps for its throttle. A kicked vCPU leaves. Where entries are to be reset all rings are
+/// reaped; where pages are closing they are flushed. Each of these adds an event, and a guest has
+/// no more than `most_events`, so it comes to an end. After an `Err` bench, collector and rings are
+/// where the last turn that was made left them: at `Sink` what the advance appended stands and the
+/// run is given up; at `Memory` the turn that found none changed nothing.
+#[tactic(auto, using(crate::proofs::Used::for_drive))]
 pub fn drive<N: Name, O: Outlet, C: Clock>(
     alloc: Global,
     bench: &mut Bench<N, O>,
@@ -133,7 +133,7 @@ pub fn drive<N: Name, O: Outlet, C: Clock>(
     ensures times { AddsRead (C.reads clock.now) bench.old.past bench.new.past }
 {
     loop {
-        match step(alloc, bench, collector, rings, clock)? {
+        match make_block(alloc, bench, collector, rings, clock)? {
             Some(end) => return Ok(end),
             None => {}
         }

@@ -12,17 +12,17 @@ use Rattle.dr_history.specs.declared.event.Event.{Event}
 use Rattle.dr_history.specs.declared.event.Event.TheVariants.{Switched}
 use Rattle.dr_history.specs.Kinds.{is_switched}
 use Rattle.dr_history.specs.Stream.{stream_of}
-use Rattle.dr_headline.proofs.Promises.{headline, promises}
-use Rattle.dr_machine.specs.States.{Left}
+use Rattle.dr_headline_law.proofs.Promises.{headline, promises}
+use Rattle.dr_machine.specs.Views.{KeptView}
 use Rattle.dr_run.specs.declared.outcome.OutcomeEnd.{OutcomeEnd}
 use Rattle.dr_run.specs.declared.outcome.OutcomeEnd.TheVariants as outcome
 use Rattle.dr_run.specs.Outcomes.{EndsAs, SendsAs, ends_switched}
-use Rattle.dr_schedule.specs.Schedule.{CutAtTurn}
-use Rattle.dr_schedule.proofs.Scheduled.{scheduled_cut}
+use Rattle.dr_schedule_law.specs.Schedule.{CutAtTurn}
+use Rattle.dr_schedule_law.proofs.Scheduled.{scheduled_cut}
 use Rattle.dr_turns.specs.Due.{run_end}
 use Rattle.dr_turns.specs.declared.answers.RunEnd.{RunEnd}
 use Rattle.dr_turns.specs.declared.answers.RunEnd.TheVariants as end
-use Rattle.dr_spent.proofs.Told.{spent_is_told}
+use Rattle.dr_schedule_law.proofs.Told.{spent_is_told}
 use Rattle.dr_plain.proofs.Cuts.{cut_behind}
 use Rattle.dr_plain.specs.declared.ending.PutFault.{PutFault}
 use Rattle.dr_plain.specs.declared.ending.PutFault.TheVariants as fault
@@ -55,35 +55,35 @@ cut_anyhow guest past outcome.Budget ends = scheduled_cut guest past ends.schedu
 cut_anyhow guest past outcome.Sink ends = ends
 cut_anyhow guest past outcome.Memory ends = ends
 
-cut_off : (guest : Guest) (left : Left) (old new : Ports) → IsRunOf guest left → CutAtTurn guest [] left.past
-    → PutsCut (puts_of guest left.past) old new → IsCutOff guest left old new
-cut_off guest left old new run cut ports =
-    record { run = run; cut = cut; promises = promises guest left.past run.legal.0; ports = ports }
+cut_off : (guest : Guest) (view : KeptView) (old new : Ports) → IsRunOf guest view → CutAtTurn guest [] view.past
+    → PutsCut (puts_of guest view.past) old new → IsCutOff guest view old new
+cut_off guest view old new run cut ports =
+    record { run = run; cut = cut; promises = promises guest view.past run.legal.0; ports = ports }
 
 -- what the status of a run says
-pub run_says : (guest : Guest) (left : Left) (old new : Ports) (r : Result Status PutFault) → IsValid guest
-    → IsRunOf guest left → CutAtTurn guest [] left.past → IfOk r (λ s. EndsWhole s guest left.past)
-    → OnOk r (new ≡ put_all (puts_of guest left.past) old)
-    → OnErr r (PutsCut (puts_of guest left.past) old new)
-    → RunSays (status_of_end r) guest (Some left) old new
-run_says guest left old new (Ok Done) valid run cut whole done ports = record {
+pub run_says : (guest : Guest) (view : KeptView) (old new : Ports) (r : Result Status PutFault) → IsValid guest
+    → IsRunOf guest view → CutAtTurn guest [] view.past → IfOk r (λ s. EndsWhole s guest view.past)
+    → OnOk r (new ≡ put_all (puts_of guest view.past) old)
+    → OnErr r (PutsCut (puts_of guest view.past) old new)
+    → RunSays (status_of_end r) guest (Some view) old new
+run_says guest view old new (Ok Done) valid run cut whole done ports = record {
   run = run;
   switched = whole;
-  headline = headline guest left.past valid run.legal.0 (some_switched left.past whole.last);
+  headline = headline guest view.past valid run.legal.0 (some_switched view.past whole.last);
   ports = done;
 }
-run_says guest left old new (Ok Unfinished) valid run cut whole done ports = record {
+run_says guest view old new (Ok Unfinished) valid run cut whole done ports = record {
   run = run;
   spent = whole;
-  rounds = spent_is_told guest left.past run.legal.0 whole.spent;
-  promises = promises guest left.past run.legal.0;
+  rounds = spent_is_told guest view.past run.legal.0 whole.spent;
+  promises = promises guest view.past run.legal.0;
   ports = done;
 }
-run_says guest left old new (Ok s) valid run cut whole done ports = absurd whole
-run_says guest left old new (Err fault.Outlet) valid run cut whole done ports =
-    cut_off guest left old new run cut ports
-run_says guest left old new (Err fault.Memory) valid run cut whole done ports =
-    cut_off guest left old new run cut ports
+run_says guest view old new (Ok s) valid run cut whole done ports = absurd whole
+run_says guest view old new (Err fault.Outlet) valid run cut whole done ports =
+    cut_off guest view old new run cut ports
+run_says guest view old new (Err fault.Memory) valid run cut whole done ports =
+    cut_off guest view old new run cut ports
 
 -- it says that a put failed only where the count of faults has risen
 pub outlet_rose : (guest : Guest) (past : List Event) (before now : ℕ) (r : Result Status PutFault) → IfOk r (λ s. EndsWhole s guest past) → IfErr r (IsFault before now)

@@ -25,9 +25,9 @@ told_bytes limit old before r new now bytes reads is P p told at =
     (subst Short same (reads.fits bytes is), subst P same p)
 
 -- a fault of the file, where it isn't want of memory
-pub refusal_of : (left : Option (List ℕ)) (before now : ℕ) (why : FileFault) → (why ≢ fault.Memory → IfTold left (IsRefused why)) → IsRefusal (status_of_fault why) left before now
-refusal_of left before now fault.Memory h = tt
-refusal_of left before now why h = ((λ e. cc e), h (λ e. cc e))
+pub refusal_of : (remaining : Option (List ℕ)) (before now : ℕ) (why : FileFault) → (why ≢ fault.Memory → IfTold remaining (IsRefused why)) → IsRefusal (status_of_fault why) remaining before now
+refusal_of remaining before now fault.Memory h = tt
+refusal_of remaining before now why h = ((λ e. cc e), h (λ e. cc e))
 
 -- all that was told was read
 pub drained : (limit : ℕ) (old : Option (List ℕ)) (before : ℕ) (r : Result (List ℕ) ReadFault) (new : Option (List ℕ)) (now : ℕ) (bytes : List ℕ)
@@ -46,13 +46,13 @@ pub took_many : (old : Option (List ℕ)) (before : ℕ) (r : Result (List ℕ) 
     → ReadsAll most_bytes old before r new now → r ≡ Err TooLong → IfTold old (λ bytes. TakesMany bytes new)
 took_many old before r new now reads is told at =
     let part = reads.part TooLong told is at in
-    record { rest = drop part.0 told; left = part.2; many = reads.long told (drop part.0 told) is at part.2 }
+    record { rest = drop part.0 told; remaining = part.2; many = reads.long told (drop part.0 told) is at part.2 }
 
 pub took_few : (old : Option (List ℕ)) (before : ℕ) (r : Result (List ℕ) ReadFault) (new : Option (List ℕ)) (now : ℕ)
     → ReadsAll most_bytes old before r new now → r ≡ Err Failed → IfTold old (λ bytes. TakesFew bytes new)
 took_few old before r new now reads is told at =
     let part = reads.part Failed told is at in
-    record { rest = drop part.0 told; left = part.2; few = reads.short told (drop part.0 told) is at part.2 }
+    record { rest = drop part.0 told; remaining = part.2; few = reads.short told (drop part.0 told) is at part.2 }
 
 -- a fault of the file comes when all was read
 pub fault_takes : (why : FileFault) (old new : Option (List ℕ)) → IsDrained old new → Takes (status_of_fault why) old new

@@ -4,7 +4,7 @@ use Rattle.dr_types.specs.declared.guest.Guest.{Guest}
 use Rattle.dr_types.specs.declared.status.Status.{Status}
 use Rattle.dr_types.specs.declared.status.Status.TheVariants.{Done, Unfinished, Outlet, Memory}
 use Rattle.dr_history.specs.declared.event.Event.{Event}
-use Rattle.dr_machine.specs.States.{Left, State}
+use Rattle.dr_machine.specs.Views.{KeptView, MachineView}
 use Rattle.dr_run.specs.Outcomes.{HasSpent, HasSwitched}
 use Rattle.dr_plain.specs.declared.ending.PutFault.{PutFault}
 use Rattle.dr_plain.specs.declared.ending.PutFault.TheVariants as fault
@@ -22,5 +22,5 @@ status_of_end (Err fault.Outlet) = Outlet
 status_of_end (Err fault.Memory) = Memory
 
 -- what is left of a machine of this guest
-abbrev pub left_of : Guest → State → Left
+abbrev pub left_of : Guest → MachineView → KeptView
 left_of guest machine = record { guest = guest; past = machine.past; seats = machine.seats }

@@ -25,40 +25,40 @@ IsFileOf guest bytes = (length bytes ≤ most_bytes) × (guest_of bytes ≡ Ok g
 
 -- where the source tells its bytes, they are as the fact says
 abbrev pub IfTold : Option (List ℕ) → (List ℕ → Type 0) → Type 0
-IfTold left P = (bytes : List ℕ) → left ≡ Some bytes → P bytes
+IfTold remaining P = (bytes : List ℕ) → remaining ≡ Some bytes → P bytes
 
 -- the guest was read from the source; over a source that tells nothing it is some valid guest
-pub record IsRead (left : Option (List ℕ)) (guest : Guest) : Type 0 where
-  pub file : IfTold left (IsFileOf guest)
+pub record IsRead (remaining : Option (List ℕ)) (guest : Guest) : Type 0 where
+  pub file : IfTold remaining (IsFileOf guest)
   pub valid : IsValid guest
 
 -- where the source tells its bytes, nothing of them is left
 abbrev pub IsDrained : Option (List ℕ) → Option (List ℕ) → Type 0
-IsDrained left new = IfTold left (λ bytes. new ≡ Some [])
+IsDrained remaining new = IfTold remaining (λ bytes. new ≡ Some [])
 
 -- of these bytes no more were taken than a guest file may have
 pub record TakesFew (bytes : List ℕ) (new : Option (List ℕ)) : Type 0 where
   pub rest : List ℕ
-  pub left : new ≡ Some rest
+  pub remaining : new ≡ Some rest
   pub few : length bytes ≤ most_bytes + length rest
 
 -- of these bytes more were taken than a guest file may have
 pub record TakesMany (bytes : List ℕ) (new : Option (List ℕ)) : Type 0 where
   pub rest : List ℕ
-  pub left : new ≡ Some rest
+  pub remaining : new ≡ Some rest
   pub many : most_bytes + length rest < length bytes
 
 -- what a status says of what the source told, and of what it tells then
 abbrev pub Takes : Status → Option (List ℕ) → Option (List ℕ) → Type 0
-Takes Done left new = IsDrained left new
-Takes Words left new = new ≡ left
-Takes (GuestFile why) left new = IsDrained left new
-Takes Unfinished left new = IsDrained left new
-Takes Outlet left new = IsDrained left new
-Takes Source left new = IfTold left (λ bytes. TakesFew bytes new)
-Takes Memory left new = IfTold left (λ bytes. IsPartTaken bytes new)
-Takes TooLong left new = IfTold left (λ bytes. TakesMany bytes new)
-Takes other left new = ⊥
+Takes Done remaining new = IsDrained remaining new
+Takes Words remaining new = new ≡ remaining
+Takes (GuestFile why) remaining new = IsDrained remaining new
+Takes Unfinished remaining new = IsDrained remaining new
+Takes Outlet remaining new = IsDrained remaining new
+Takes Source remaining new = IfTold remaining (λ bytes. TakesFew bytes new)
+Takes Memory remaining new = IfTold remaining (λ bytes. IsPartTaken bytes new)
+Takes TooLong remaining new = IfTold remaining (λ bytes. TakesMany bytes new)
+Takes other remaining new = ⊥
 
 -- the bytes are a guest file
 pub record IsGuestFile (bytes : List ℕ) : Type 0 where
@@ -67,11 +67,12 @@ pub record IsGuestFile (bytes : List ℕ) : Type 0 where
 
 -- why no guest was read
 abbrev pub IsRefusal : Status → Option (List ℕ) → ℕ → ℕ → Type 0
-IsRefusal (GuestFile why) left before now = (why ≢ fault.Memory) × IfTold left (IsRefused why)
-IsRefusal Source left before now = Rose before now
-IsRefusal Memory left before now = Unit {0}
-IsRefusal TooLong left before now = IfTold left (λ bytes. most_bytes < length bytes)
-IsRefusal other left before now = ⊥
+IsRefusal (GuestFile why) remaining before now =
+    (why ≢ fault.Memory) × IfTold remaining (IsRefused why)
+IsRefusal Source remaining before now = Rose before now
+IsRefusal Memory remaining before now = Unit {0}
+IsRefusal TooLong remaining before now = IfTold remaining (λ bytes. most_bytes < length bytes)
+IsRefusal other remaining before now = ⊥
 
 -- the status of a guest file that was not read
 abbrev pub status_of_fault : FileFault → Status

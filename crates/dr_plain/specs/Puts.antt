@@ -17,10 +17,11 @@ use Rattle.dr_plain.specs.declared.ending.PutFault.TheVariants as fault
 
 -- the two texts of a run, in the order in which they are put
 abbrev pub texts_of : Guest → List Event → List (Port × List ℕ)
-texts_of guest past = (port.Report, report_of guest past) ∷ (port.Journal, journal_text guest past) ∷ []
+texts_of guest past =
+    (port.Report, report_of guest past) ∷ (port.Journal, journal_text guest past) ∷ []
 
--- what is put behind the stream, by where the run stands: the image only where the guest has switched over,
--- and nothing where the run was cut off
+-- what is put behind the stream, by where the run stands: the image only where the guest has
+-- switched over, and nothing where the run was cut off
 abbrev pub puts_behind : RunEnd → Guest → List Event → List (Port × List ℕ)
 puts_behind end.Switched guest past = (port.Image, image_of guest past) ∷ texts_of guest past
 puts_behind end.Budget guest past = texts_of guest past
@@ -28,7 +29,8 @@ puts_behind end.Open guest past = []
 
 -- what a run to these events puts, in this order
 abbrev pub puts_of : Guest → List Event → List (Port × List ℕ)
-puts_of guest past = (port.Stream, stream_of guest past) ∷ puts_behind (run_end guest past) guest past
+puts_of guest past =
+    (port.Stream, stream_of guest past) ∷ puts_behind (run_end guest past) guest past
 
 -- a first part of the bytes was put
 abbrev pub PutsPart : Port → List ℕ → Ports → Ports → Type 0

@@ -10,50 +10,51 @@ use Rattle.dr_types.specs.Scripts.{vcpu_count}
 use Rattle.dr_types.specs.Validity.{IsValid}
 use Rattle.dr_history.specs.Legality.{IsLegal}
 use Rattle.dr_history.specs.Lines.{FitsLine}
-use Rattle.dr_headline.specs.Headline.{KeepsHeadline, KeepsPromises}
-use Rattle.dr_machine.specs.States.{Left}
+use Rattle.dr_headline_law.specs.Headline.{KeepsHeadline, KeepsPromises}
+use Rattle.dr_machine.specs.Views.{KeptView}
 use Rattle.dr_run.specs.Outcomes.{HasSpent, HasSwitched}
-use Rattle.dr_schedule.specs.Schedule.{CutAtTurn}
-use Rattle.dr_seats.specs.Seats.{AreSeats}
-use Rattle.dr_spent.specs.Spent.{AreSpent}
+use Rattle.dr_schedule_law.specs.Schedule.{CutAtTurn}
+use Rattle.dr_seat_law.specs.Seats.{AreSeats}
+use Rattle.dr_schedule_law.specs.Spent.{AreSpent}
 use Rattle.dr_plain.specs.Input.{IfTold, IsRead, IsRefused, most_bytes}
 use Rattle.dr_plain.specs.Puts.{puts_of}
 
--- What is kept is of a machine that ran this guest: its history is legal, each event has a line of its own,
--- and its rings, one for each vCPU, have pushed and reset what the events say.
-pub record IsRunOf (guest : Guest) (kept : Left) : Type 0 where
+-- What is kept is of a machine that ran this guest: its history is legal, each event has a line of
+-- its own, and its rings, one for each vCPU, have pushed and reset what the events say.
+pub record IsRunOf (guest : Guest) (kept : KeptView) : Type 0 where
   pub same : kept.guest ≡ guest
   pub legal : IsLegal guest kept.past
   pub fits : All FitsLine kept.past
   pub seats : AreSeats guest kept.past kept.seats
   pub one_each : length kept.seats ≡ vcpu_count guest
 
--- the guest has switched over, by the schedule; the headline holds, and all that is to be put was put
-pub record IsMigrated (guest : Guest) (kept : Left) (old new : Ports) : Type 0 where
+-- the guest has switched over, by the schedule; the headline holds, and all that is to be put was
+-- put
+pub record IsMigrated (guest : Guest) (kept : KeptView) (old new : Ports) : Type 0 where
   pub run : IsRunOf guest kept
   pub switched : HasSwitched guest kept.past
   pub headline : KeepsHeadline guest kept.past
   pub ports : new ≡ put_all (puts_of guest kept.past) old
 
--- All rounds of the guest are spent, by the schedule: each was answered with too many pages, which were
--- copied. The promises hold, and all that is to be put was put.
-pub record IsUnfinished (guest : Guest) (kept : Left) (old new : Ports) : Type 0 where
+-- All rounds of the guest are spent, by the schedule: each was answered with too many pages, which
+-- were copied. The promises hold, and all that is to be put was put.
+pub record IsUnfinished (guest : Guest) (kept : KeptView) (old new : Ports) : Type 0 where
   pub run : IsRunOf guest kept
   pub spent : HasSpent guest kept.past
   pub rounds : AreSpent guest kept.past
   pub promises : KeepsPromises guest kept.past
   pub ports : new ≡ put_all (puts_of guest kept.past) old
 
--- The run was cut off at the end of a turn: its events are a first part of a schedule, and the promises hold.
--- Of the puts all before one were made, and a first part of that one.
-pub record IsCutOff (guest : Guest) (kept : Left) (old new : Ports) : Type 0 where
+-- The run was cut off at the end of a turn: its events are a first part of a schedule, and the
+-- promises hold. Of the puts all before one were made, and a first part of that one.
+pub record IsCutOff (guest : Guest) (kept : KeptView) (old new : Ports) : Type 0 where
   pub run : IsRunOf guest kept
   pub cut : CutAtTurn guest [] kept.past
   pub promises : KeepsPromises guest kept.past
   pub ports : PutsCut (puts_of guest kept.past) old new
 
 -- what the status of a run says of the guest, of what is kept, and of the ports
-abbrev pub RunSays : Status → Guest → Option Left → Ports → Ports → Type 0
+abbrev pub RunSays : Status → Guest → Option KeptView → Ports → Ports → Type 0
 RunSays Done guest (Some kept) old new = IsMigrated guest kept old new
 RunSays Unfinished guest (Some kept) old new = IsUnfinished guest kept old new
 RunSays Outlet guest (Some kept) old new = IsCutOff guest kept old new
@@ -62,35 +63,37 @@ RunSays Memory guest None old new = new ≡ old
 RunSays s guest kept old new = ⊥
 
 -- the guest of the source was run, and its run ended with this status
-pub record HasRun (s : Status) (left : Option (List ℕ)) (kept : Option Left) (old new : Ports) : Type 0 where
+pub record HasRun (s : Status) (remaining : Option (List ℕ)) (kept : Option KeptView)
+    (old new : Ports) : Type 0 where
   pub guest : Guest
-  pub read : IsRead left guest
+  pub read : IsRead remaining guest
   pub says : RunSays s guest kept old new
 
 -- no guest was run: nothing is kept, and nothing was put
-pub record HasQuit (kept : Option Left) (old new : Ports) : Type 0 where
+pub record HasQuit (kept : Option KeptView) (old new : Ports) : Type 0 where
   pub none : kept ≡ None
   pub ports : new ≡ old
 
 -- what a status says of the source's bytes, of what is kept, and of the ports
-abbrev pub Says : Status → Option (List ℕ) → Option Left → Ports → Ports → Type 0
-Says Done left kept old new = HasRun Done left kept old new
-Says Unfinished left kept old new = HasRun Unfinished left kept old new
-Says Outlet left kept old new = HasRun Outlet left kept old new
-Says Memory left kept old new = HasQuit kept old new ⊎ HasRun Memory left kept old new
-Says Words left kept old new = HasQuit kept old new
-Says Source left kept old new = HasQuit kept old new
-Says (GuestFile why) left kept old new =
-    HasQuit kept old new × (why ≢ fault.Memory) × IfTold left (IsRefused why)
-Says TooLong left kept old new = HasQuit kept old new × IfTold left (λ bytes. most_bytes < length bytes)
-Says other left kept old new = ⊥
+abbrev pub Says : Status → Option (List ℕ) → Option KeptView → Ports → Ports → Type 0
+Says Done remaining kept old new = HasRun Done remaining kept old new
+Says Unfinished remaining kept old new = HasRun Unfinished remaining kept old new
+Says Outlet remaining kept old new = HasRun Outlet remaining kept old new
+Says Memory remaining kept old new = HasQuit kept old new ⊎ HasRun Memory remaining kept old new
+Says Words remaining kept old new = HasQuit kept old new
+Says Source remaining kept old new = HasQuit kept old new
+Says (GuestFile why) remaining kept old new =
+    HasQuit kept old new × (why ≢ fault.Memory) × IfTold remaining (IsRefused why)
+Says TooLong remaining kept old new =
+    HasQuit kept old new × IfTold remaining (λ bytes. most_bytes < length bytes)
+Says other remaining kept old new = ⊥
 
 -- some valid guest was migrated, whatever the source tells
-pub record SomeMigrated (kept : Option Left) (old new : Ports) : Type 0 where
-  pub left : Left
-  pub is : kept ≡ Some left
-  pub valid : IsValid left.guest
-  pub migrated : IsMigrated left.guest left old new
+pub record SomeMigrated (kept : Option KeptView) (old new : Ports) : Type 0 where
+  pub view : KeptView
+  pub is : kept ≡ Some view
+  pub valid : IsValid view.guest
+  pub migrated : IsMigrated view.guest view old new
 
 -- how a command may end whose source tells a guest file
 abbrev pub EndsRun : Status → Type 0

@@ -144,6 +144,7 @@ fn put_switched<N: Name, O: Outlet>(
     ensures later { O.faults out.old ≤ O.faults out.new }
     ensures fault { IfErr result (IsFault (O.faults out.old) (O.faults out.new)) }
 {
+    // The image before the texts: a report that says `switched` has its image beside it.
     put_image(machine, out)?;
     put_texts(alloc, machine.guest(), machine.history(), out)
 }

@@ -19,11 +19,11 @@ fn status_of(why: FileFault) -> Status
 
 /// Reads a source to its end, and the guest that its bytes say. The status says why there is none.
 pub fn read_input<S: Source>(alloc: Global, source: &mut S) -> Result<Guest, Status>
-    ensures read { IfOk result (λ guest. IsRead (S.left source.old) guest) }
-    ensures drained { OnOk result (IsDrained (S.left source.old) (S.left source.new)) }
-    ensures takes { IfErr result (λ s. Takes s (S.left source.old) (S.left source.new)) }
+    ensures read { IfOk result (λ guest. IsRead (S.remaining source.old) guest) }
+    ensures drained { OnOk result (IsDrained (S.remaining source.old) (S.remaining source.new)) }
+    ensures takes { IfErr result (λ s. Takes s (S.remaining source.old) (S.remaining source.new)) }
     ensures refusal { IfErr result (λ s.
-        IsRefusal s (S.left source.old) (S.faults source.old) (S.faults source.new)) }
+        IsRefusal s (S.remaining source.old) (S.faults source.old) (S.faults source.new)) }
 {
     let bytes = match read_all(alloc, source, MOST_GUEST_BYTES) {
         Ok(bytes) => bytes,

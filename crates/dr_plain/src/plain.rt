@@ -4,14 +4,14 @@ ghost use Rattle.dr_types.specs.Ports.{Rose};
 ghost use Rattle.dr_history.specs.Times.{times};
 ghost use Rattle.dr_plain.specs.Input.{IfTold, IsGuestFile, Takes};
 ghost use Rattle.dr_plain.specs.Top.{EndsRun, Says, SomeMigrated};
-ghost use Rattle.dr_words.specs.Words.{is_step};
+ghost use Rattle.dr_command.specs.Words.{is_step};
 
 use crate::input::read_input;
 use crate::step::{StepEnd, step};
+use dr_command::is_step;
 use dr_io::{Clock, Outlet, Source};
 use dr_machine::Kept;
 use dr_types::Status;
-use dr_words::is_step;
 use std::alloc::Global;
 
 /// How a command ended.
@@ -50,12 +50,14 @@ pub fn plain_main<S: Source, O: Outlet, C: Clock>(
     ensures words { (result.status ≡ Some Status.Words)
         ↔ (is_step (map string_bytes words.now) ≡ false) }
     ensures says { IfSome result.status (λ s.
-        Says s (S.left src.old) result.kept (O.told out) (O.told result.out)) }
+        Says s (S.remaining src.old) result.kept (O.told out) (O.told result.out)) }
     ensures times { IfSome result.kept (λ k. All (C.reads clock.now) (times k.past)) }
-    ensures takes { IfSome result.status (λ s. Takes s (S.left src.old) (S.left src.new)) }
+    ensures takes { IfSome result.status
+        (λ s. Takes s (S.remaining src.old) (S.remaining src.new)) }
     ensures untold { result.status ≡ Some Status.Done
         → SomeMigrated result.kept (O.told out) (O.told result.out) }
-    ensures ends { is_step (map string_bytes words.now) ≡ true → IfTold (S.left src.old) (λ bytes.
+    ensures ends { is_step (map string_bytes words.now) ≡ true
+        → IfTold (S.remaining src.old) (λ bytes.
         IsGuestFile bytes → IfSome result.status EndsRun) }
     ensures outlet { result.status ≡ Some Status.Outlet
         → Rose (O.faults out) (O.faults result.out) }

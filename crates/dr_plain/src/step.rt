@@ -12,14 +12,14 @@ use crate::ending::{PutFault, put_behind};
 use dr_io::{Clock, Outlet};
 use dr_machine::{Kept, Machine, rings_for};
 use dr_ring::Name;
-use dr_rings::RingSet;
+use dr_ring_set::RingSet;
 use dr_run::{Outcome, OutcomeEnd, RunOutcome, step_run};
 use dr_types::{Guest, Status};
 use std::alloc::Global;
 use std::marker::Brand;
 
-/// How a run ended, with its outlet, and what is kept of its machine: nothing where there was none, for
-/// want of memory.
+/// How a run ended, with its outlet, and what is kept of its machine: nothing where there was none,
+/// for want of memory.
 #[derive(Drop)]
 pub struct StepEnd<O: Outlet> {
     pub status: Status,
@@ -44,9 +44,9 @@ fn keep<N: Name>(machine: Machine<N>) -> Kept
     ensures run { IsRunOf N.guest result }
     ensures valid { IsValid N.guest }
 {
-    let _guest = machine.guest();
+    let _recall_guest = machine.guest();
     let kept = machine.keep();
-    kept.history().fits_lines();
+    kept.history().recall_lines();
     kept
 }
 

@@ -40,8 +40,8 @@ fn is_run(status: Status) -> bool {
     status == Status::Done || status == Status::Unfinished
 }
 
-/// A command on a file ends so; where it is a run that came to its end something was put and is kept,
-/// else nothing. `false` also where memory is refused.
+/// A command on a file ends so; where it is a run that came to its end something was put and is
+/// kept, else nothing. `false` also where memory is refused.
 pub fn ends(alloc: Global, words: &[&str], file: &[u8], status: Status) -> bool {
     match command(alloc, words, file) {
         Ok(end) => {

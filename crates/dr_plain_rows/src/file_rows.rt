@@ -1,7 +1,7 @@
 //! Files that are refused, and guests that are run or not.
 
 use crate::commands::ends;
-use dr_rows::SETTINGS;
+use dr_testing::SETTINGS;
 use dr_types::{FileFault, Status, What};
 use std::alloc::{AllocError, Global};
 use std::test::Fail;

@@ -1,5 +1,5 @@
-//! The top call as tables: which words are a command, which files are refused, which guests are run,
-//! and what is kept of a run. What a run leaves on its ports stands in `dr_port_rows`.
+//! The top call as tables: which words are a command, which files are refused, which guests are
+//! run, and what is kept of a run. What a run leaves on its ports stands in `dr_plain_port_rows`.
 #![tactic(auto)]
 
 #[cfg(test)]

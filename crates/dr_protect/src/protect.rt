@@ -2,9 +2,10 @@ ghost use Rattle.std.specs.Prelude.{◌≡◌, ◌+◌, ◌<◌, ◌≤◌, true
 ghost use Rattle.dr_types.specs.Validity.{AreSlots};
 ghost use Rattle.dr_protect.specs.Permissions.{cell, is_writable, is_cached};
 ghost use Rattle.dr_protect.specs.Masks.{named_page};
-ghost use Rattle.dr_protect.specs.Calls.{unprotected, started, flushed, filled, opened, protected, masked};
+ghost use Rattle.dr_protect.specs.Calls.{unprotected, started, flushed, filled, opened, protected};
+ghost use Rattle.dr_protect.specs.Calls.{masked};
 
-use dr_flags::Flags;
+use dr_marks::Flags;
 use dr_slots::{Slots, pages_in};
 use dr_types::{Memory, SlotList};
 use std::alloc::Global;

@@ -12,7 +12,7 @@ use Rattle.dr_history.specs.Throttles.{last_time}
 use Rattle.dr_history.specs.Report.{guest_line}
 use Rattle.dr_history.specs.Rules.{names_exist}
 use Rattle.dr_history.specs.Legality.{IsLegalSoFar, broken}
-use Rattle.dr_law.proofs.Kept.{keeps}
+use Rattle.dr_history_law.proofs.Kept.{keeps}
 use Rattle.dr_report.specs.declared.tally.Tally.{Tally}
 use Rattle.dr_report.specs.Tallies.{vcpu_of, begun, answered, tally_of}
 use Rattle.dr_report.specs.Answers.{last_answer, answer_text}

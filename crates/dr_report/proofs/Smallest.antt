@@ -2,7 +2,7 @@
 use Rattle.std.proofs.Common.{ℕ, zero, suc, ◌+◌, ◌^◌, ◌<◌, ◌≤◌, [], ◌∷◌, length, get_or, refl, arith}
 use lib.Count.{ones}
 use Rattle.dr_types.specs.Validity.{IsValid}
-use Rattle.dr_samples.specs.Smallest.{halting_guest}
+use Rattle.dr_history_sample_law.specs.Smallest.{halting_guest}
 
 all_one : {A : Type 0} (P : A → Type 0) (x : A) → P x → (k : ℕ) (d : A) → k < length (x ∷ []) → P (get_or (x ∷ []) k d)
 all_one P x h zero d l = h

@@ -13,9 +13,9 @@ use Rattle.dr_history.specs.Kinds.{is_op_of, is_pushed_of, is_synced}
 use Rattle.dr_history.specs.Throttles.{begins_span}
 use Rattle.dr_history.specs.Report.{exits_full, exits_kicked}
 use Rattle.dr_history.specs.Legality.{IsLegalSoFar}
-use Rattle.dr_law.specs.Limits.{FitsLimits}
-use Rattle.dr_law.proofs.Earlier.{earlier_legal}
-use Rattle.dr_law.proofs.Limits.{fits_rate}
+use Rattle.dr_history_law.specs.Limits.{FitsLimits}
+use Rattle.dr_history_law.proofs.Earlier.{earlier_legal}
+use Rattle.dr_history_law.proofs.Limits.{fits_rate}
 use Rattle.dr_report.specs.declared.answer.Answer.{Answer}
 use Rattle.dr_report.specs.Tallies.{IsSmall, tally_of}
 use Rattle.dr_report.specs.Answers.{one_more_copied, last_answer}

@@ -1,5 +1,7 @@
 -- A report as far as its events were read.
-use Rattle.std.specs.Prelude.{◌≡◌, ℕ, Bool, true, ◌-◌, ◌<◌, ◌≤◌, ◌^◌, List, [], ◌∷◌, ◌++◌, map, All, length, codes, Option, Some, None, if◌then◌else◌, slice_get, slice_set}
+use Rattle.std.specs.Prelude.{◌≡◌, ℕ, Bool, true, ◌-◌, ◌<◌, ◌≤◌, ◌^◌, List, [], ◌∷◌, ◌++◌, map, All}
+use Rattle.std.specs.Prelude.{length, codes, Option, Some, None, if◌then◌else◌, slice_get}
+use Rattle.std.specs.Prelude.{slice_set}
 use Rattle.std.specs.List.{flat_map, list_any}
 use Rattle.dr_types.specs.declared.guest.Guest.{Guest}
 use Rattle.dr_types.specs.Lines.{line_text}
@@ -83,8 +85,8 @@ ending switched =
 abbrev pub finished : Sheet → List ℕ
 finished s = s.text ++ answer_text s.tallies s.answer ++ vcpu_lines s.tallies ++ ending s.switched
 
--- what a sheet needs to take an event: its vCPU has a tally, no count is near its last value, and at an
--- answer no tally has more entries than all operations of a guest
+-- what a sheet needs to take an event: its vCPU has a tally, no count is near its last value, and
+-- at an answer no tally has more entries than all operations of a guest
 pub record CanTake (e : Event) (s : Sheet) : Type 0 where
   pub named : (v : ℕ) → vcpu_of e ≡ Some v → v < length s.tallies
   pub small : All IsSmall s.tallies

@@ -3,7 +3,8 @@ use Rattle.std.specs.Prelude.{◌<◌, ◌^◌, ℕ, ◌+◌, List, [], ◌∷�
 use Rattle.dr_types.specs.declared.guest.Why.TheVariants as reason
 use Rattle.dr_types.specs.Rates.{rate}
 use Rattle.dr_history.specs.declared.event.Event.{Event}
-use Rattle.dr_history.specs.declared.event.Event.TheVariants.{Read, Write, Paint, Local, Halted, Pushed, Exited, Throttled}
+use Rattle.dr_history.specs.declared.event.Event.TheVariants.{Read, Write, Paint, Local, Halted}
+use Rattle.dr_history.specs.declared.event.Event.TheVariants.{Pushed, Exited, Throttled}
 use Rattle.dr_history.specs.Lookback.{count, since}
 use Rattle.dr_history.specs.Kinds.{is_op_of, is_pushed_of, is_synced}
 use Rattle.dr_history.specs.Throttles.{begins_span, current_rate, time_of}
@@ -41,7 +42,8 @@ begun t = record t { entries = 0 }
 
 -- the tally at an answer, so long after the last answer or the start
 abbrev pub answered : ℕ → Tally → Tally
-answered span t = record t { answered_entries = t.entries; answered_rate = rate t.entries span; entries = 0 }
+answered span t =
+    record t { answered_entries = t.entries; answered_rate = rate t.entries span; entries = 0 }
 
 -- one more can be counted
 pub record IsSmall (t : Tally) : Type 0 where
@@ -54,7 +56,8 @@ pub record IsSmall (t : Tally) : Type 0 where
 abbrev pub answered_entries : ℕ → List Event → ℕ
 answered_entries v [] = 0
 answered_entries v (e ∷ earlier) =
-    if is_synced e then count (is_pushed_of v) (since begins_span earlier) else answered_entries v earlier
+    if is_synced e then count (is_pushed_of v) (since begins_span earlier)
+    else answered_entries v earlier
 
 -- the rate of the last answer, or 0 before the first
 abbrev pub answered_rate : ℕ → List Event → ℕ

@@ -1,6 +1,6 @@
 ghost use Rattle.std.specs.Prelude.{◌≡◌, [], IfOk};
 ghost use Rattle.dr_history.specs.declared.event.Event as Event;
-ghost use Rattle.dr_samples.specs.Smallest.{halting_guest, halting_run};
+ghost use Rattle.dr_history_sample_law.specs.Smallest.{halting_guest, halting_run};
 
 use crate::report_text;
 use dr_history::{Event, History};
@@ -9,7 +9,7 @@ use std::alloc::Global;
 use std::test::Fail;
 
 /// A guest of one page, whose one vCPU halts at once.
-#[tactic(auto, unfolding(dr_samples::specs::Smallest::halting_guest))]
+#[tactic(auto, unfolding(dr_history_sample_law::specs::Smallest::halting_guest))]
 fn guest(alloc: Global) -> Result<Guest, Fail>
     ensures { IfOk result (λ guest. guest ≡ halting_guest) }
 {
@@ -40,7 +40,7 @@ fn guest(alloc: Global) -> Result<Guest, Fail>
 }
 
 /// The migration of that guest.
-#[tactic(auto, unfolding(dr_samples::specs::Smallest::halting_run))]
+#[tactic(auto, unfolding(dr_history_sample_law::specs::Smallest::halting_run))]
 fn run(alloc: Global) -> Result<History, Fail>
     ensures { IfOk result (λ history. history.past ≡ halting_run 0) }
 {

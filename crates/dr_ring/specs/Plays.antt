@@ -1,12 +1,14 @@
 -- What each step on the words of a ring tells the seat that makes it.
 use mathlib.Core.List.{IsPrefix}
-use Rattle.std.specs.Prelude.{◌⊎◌, ◌≡◌, ◌≢◌, ℕ, ◌+◌, ◌/◌, ◌^◌, ◌<◌, ◌≤◌, [], ◌∷◌, ◌++◌, length, max, bit_and, slice_get, Some}
+use Rattle.std.specs.Prelude.{◌⊎◌, ◌≡◌, ◌≢◌, ℕ, ◌+◌, ◌/◌, ◌^◌, ◌<◌, ◌≤◌, [], ◌∷◌, ◌++◌, length, max}
+use Rattle.std.specs.Prelude.{bit_and, slice_get, Some}
 use Rattle.atomic_table.specs.Table.{Me, Step}
 use Rattle.atomic_table.specs.declared.shared.Seat.{Seat}
 use Rattle.dr_types.specs.declared.entry.Entry.{Entry}
 use Rattle.dr_types.specs.Words.{first_word, flags_in}
 use Rattle.dr_ring.specs.declared.view.View.{View}
-use Rattle.dr_ring.specs.declared.view.Role.TheVariants.{Kernel, Pushing, Resetting, User, Dirty, Copied}
+use Rattle.dr_ring.specs.declared.view.Role.TheVariants.{Kernel, Pushing, Resetting, User, Dirty}
+use Rattle.dr_ring.specs.declared.view.Role.TheVariants.{Copied}
 
 -- the flags of an entry word are DIRTY alone
 abbrev pub IsDirty : ℕ → Type 0
@@ -62,12 +64,15 @@ offers st m n m' = Becomes m m' (pushing m.0 st.first)
 
 -- the kernel seat stores the next entry word, dirty
 abbrev pub pushes : Step ℕ → Seated → ℕ → Seated → Type 0
-pushes st m n m' = (e : Entry) → m.0.role ≡ Pushing e.offset → st.first ≡ first_word e 1 → Becomes m m' (pushed_one m.0 e)
+pushes st m n m' =
+    (e : Entry) → m.0.role ≡ Pushing e.offset → st.first ≡ first_word e 1
+    → Becomes m m' (pushed_one m.0 e)
 
 -- the kernel seat loads the entry word n at its reset number
 abbrev pub finds : Step ℕ → Seated → ℕ → Seated → Type 0
 finds st m n m' =
-    (HasReset n → Becomes m m' (resetting (looked m.0 st.word n)) × ((e : Entry) × (slice_get m.0.entries m.0.reset ≡ Some e) × (n ≡ first_word e 3)))
+    (HasReset n → Becomes m m' (resetting (looked m.0 st.word n))
+    × ((e : Entry) × (slice_get m.0.entries m.0.reset ≡ Some e) × (n ≡ first_word e 3)))
     × (¬ HasReset n → Becomes m m' (looked m.0 st.word n) × (m.0.known ≤ m.0.reset))
 
 -- the kernel seat loads the offset n there
@@ -81,12 +86,15 @@ resets st m n m' = Becomes m m' (reset_one m.0)
 -- the user seat loads the entry word n at its harvest number
 abbrev pub sees : Step ℕ → Seated → ℕ → Seated → Type 0
 sees st m n m' =
-    (IsDirty n → Becomes m m' (saw (looked m.0 st.word n) (n / 2 ^ 32)) × (length m.0.entries + 1 < 2 ^ 64))
+    (IsDirty n → Becomes m m' (saw (looked m.0 st.word n) (n / 2 ^ 32))
+    × (length m.0.entries + 1 < 2 ^ 64))
     × (¬ IsDirty n → Becomes m m' (looked m.0 st.word n) × (m.0.known ≤ length m.0.entries))
 
 -- the user seat loads the offset n there
 abbrev pub copies : Step ℕ → Seated → ℕ → Seated → Type 0
-copies st m n m' = (slot : ℕ) → m.0.role ≡ Dirty slot → Becomes m m' (copied m.0 (record { slot = slot; offset = n }))
+copies st m n m' =
+    (slot : ℕ) → m.0.role ≡ Dirty slot
+    → Becomes m m' (copied m.0 (record { slot = slot; offset = n }))
 
 -- the user seat stores the entry word there, harvested
 abbrev pub harvests : Step ℕ → Seated → ℕ → Seated → Type 0
@@ -110,12 +118,14 @@ FindsHarvested index word old new =
 
 -- .. and it is not harvested, so the seat knows of no more harvests than it has reset
 abbrev pub FindsNone : ℕ → ℕ → Seat ℕ View → Seat ℕ View → Type 0
-FindsNone index word old new = IsMoved old new (looked old.me.0 index word) × (old.me.0.known ≤ old.me.0.reset)
+FindsNone index word old new =
+    IsMoved old new (looked old.me.0 index word) × (old.me.0.known ≤ old.me.0.reset)
 
 -- the user seat has loaded this word at this index, the dirty entry at its harvest number
 abbrev pub SeesDirty : ℕ → ℕ → Seat ℕ View → Seat ℕ View → Type 0
 SeesDirty index word old new =
-    IsMoved old new (saw (looked old.me.0 index word) (word / 2 ^ 32)) × (length old.me.0.entries + 1 < 2 ^ 64)
+    IsMoved old new (saw (looked old.me.0 index word) (word / 2 ^ 32))
+    × (length old.me.0.entries + 1 < 2 ^ 64)
 
 -- .. and it is not dirty, so the seat knows of no more pushes than it has harvested
 abbrev pub SeesNone : ℕ → ℕ → Seat ℕ View → Seat ℕ View → Type 0

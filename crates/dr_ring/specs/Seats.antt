@@ -17,8 +17,8 @@ pub record RingView : Type 0 where
 abbrev pub IsOfSize : ℕ → TableId → Type 0
 IsOfSize size id = id.words ≡ 1 + 2 * size
 
--- The kernel seat of a ring: all that it pushed, how many of these it has reset, and how many harvests it knows of.
--- `loaded` has each entry word that it loaded, behind the index of the word.
+-- The kernel seat of a ring: all that it pushed, how many of these it has reset, and how many
+-- harvests it knows of. `loaded` has each entry word that it loaded, behind the index of the word.
 pub record KernelView : Type 0 where
   pub ring : TableId
   pub pushed : List Entry
@@ -26,7 +26,8 @@ pub record KernelView : Type 0 where
   pub known : ℕ
   pub loaded : List (ℕ × ℕ)
 
--- The user seat of a ring: all that it harvested, and how many pushes it knows of. `loaded` as above.
+-- The user seat of a ring: all that it harvested, and how many pushes it knows of. `loaded` as
+-- above.
 pub record UserView : Type 0 where
   pub ring : TableId
   pub harvested : List Entry
@@ -68,7 +69,8 @@ kernel_learnt s entries = record s { known = max s.known (length entries) }
 
 -- the user seat, when it has loaded this entry word at its harvest number
 abbrev pub user_loaded : ℕ → UserView → ℕ → UserView
-user_loaded size s word = record s { loaded = s.loaded ++ (entry_place size (length s.harvested), word) ∷ [] }
+user_loaded size s word =
+    record s { loaded = s.loaded ++ (entry_place size (length s.harvested), word) ∷ [] }
 
 -- .. when it has harvested this entry there, whose word it found dirty
 abbrev pub user_harvested : ℕ → UserView → Entry → UserView

@@ -71,6 +71,9 @@ impl KernelSeat {
         requires count { length self.old.pushed < 2 ^ 64 - 1 }
         ensures { self.new ≡ record self.old { pushed = self.old.pushed ++ e ∷ [] } }
     {
+        // The offset first: once the entry word says DIRTY the user seat may read both. Linux has a
+        // write barrier between the two stores (`kvm_dirty_ring_push`); here the order is the
+        // rule's.
         ring.words.store_offset(&mut self.seat, self.pushed, e);
         ring.words.store_dirty(&mut self.seat, self.pushed, e);
         self.pushed += 1;
@@ -102,10 +105,12 @@ impl KernelSeat {
         ensures learnt { result ≡ None → self.old.known ≤ self.old.reset }
     {
         let first = ring.words.load_at_reset(&mut self.seat, self.reset);
+        // RESET alone is asked, whatever DIRTY says: to KVM the flags 1X mean harvested.
         if flags_of(first) & RESET == 0 {
             return None;
         }
         let second = ring.words.load_reset_offset(&mut self.seat, self.reset);
+        // The store of 0 comes last: it gives the place back, and this seat alone pushes into it.
         ring.words.store_zero(&mut self.seat, self.reset);
         self.reset += 1;
         Some(words_entry(first, second))
@@ -129,6 +134,8 @@ impl KernelSeat {
         ensures seat { self.new ≡ kernel_learnt self.old note.entries }
         ensures prefix { IsPrefix note.entries self.new.pushed }
     {
+        // A seat sees a word of the table, never the other seat's numbers. So what the user seat
+        // harvested comes here with its note, by whatever way the batch takes.
         ring.words.kernel_learn(&mut self.seat, note.into_seat());
     }
 }

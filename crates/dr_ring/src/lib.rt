@@ -1,12 +1,12 @@
 //! Dirty rings: a kernel seat that pushes and resets entries, and a user seat that harvests them.
 #![tactic(auto)]
 
+mod accesses;
 mod kernel;
 mod name;
 mod note;
 mod plays;
 mod ring;
-mod steps;
 #[cfg(test)]
 mod tests;
 mod user;

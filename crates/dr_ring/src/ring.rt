@@ -45,9 +45,9 @@ impl Ring {
     }
 
     /// How many places a ring has is a fact of its identity.
-    pub fn is_sized(&self)
+    pub fn recall_size(&self)
         ensures { IsOfSize self.now.size self.now.id }
     {
-        let _size = self.words.size;
+        let _recall_size = self.words.size;
     }
 }

@@ -80,6 +80,8 @@ impl UserSeat {
             .words
             .load_harvest_offset(&mut self.seat, self.harvested, slot);
         let e = words_entry(first, second);
+        // Read first, marked after: from this store on the kernel seat may reset the place. DIRTY
+        // stays set beside RESET, since KVM ignores it there and the slot's word is stored whole.
         ring.words
             .store_harvested(&mut self.seat, self.harvested, e);
         self.harvested += 1;

@@ -5,11 +5,13 @@ use dr_types::Entry;
 pub enum Role {
     /// The only seat of a new ring.
     Both,
+    /// The kernel seat between its calls.
     Kernel,
     /// The kernel seat between the two stores of a push, with the offset that it stored.
     Pushing(u64),
     /// The kernel seat between the load of a harvested entry word and its store of 0.
     Resetting,
+    /// The user seat between its calls.
     User,
     /// The user seat after the load of a dirty entry word, with the slot in it.
     Dirty(u32),

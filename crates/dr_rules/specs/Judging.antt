@@ -2,7 +2,12 @@
 use Rattle.std.specs.Prelude.{Bool, List, [], ◌∷◌}
 use Rattle.dr_types.specs.declared.guest.Guest.{Guest}
 use Rattle.dr_history.specs.declared.event.Event.{Event}
-use Rattle.dr_history.specs.Rules.{not_switched, follows_script, reads_memory, op_before_stop, op_not_kicked, op_has_room, op_has_buffer, write_is_cached, opens_protected, fills_writable, pushes_next, exits_with_reason, deposits_pushed, resets_deposited, flush_has_cause, starts_paced, asks_in_turn, answers_covered, answers_dirty, throttles_due, copies_next, stops_when_few, switches_when_copied}
+use Rattle.dr_history.specs.Rules.{not_switched, follows_script, reads_memory, op_before_stop}
+use Rattle.dr_history.specs.Rules.{op_not_kicked, op_has_room, op_has_buffer, write_is_cached}
+use Rattle.dr_history.specs.Rules.{opens_protected, fills_writable, pushes_next, exits_with_reason}
+use Rattle.dr_history.specs.Rules.{deposits_pushed, resets_deposited, flush_has_cause, starts_paced}
+use Rattle.dr_history.specs.Rules.{asks_in_turn, answers_covered, answers_dirty, throttles_due}
+use Rattle.dr_history.specs.Rules.{copies_next, stops_when_few, switches_when_copied}
 
 -- rules 3 to 9: what a vCPU executes, and when
 abbrev pub execution_rules : Guest → List Event → Event → List Bool

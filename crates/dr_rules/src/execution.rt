@@ -1,6 +1,7 @@
 ghost use Rattle.std.specs.Prelude.{◌≡◌, ◌==◌, ◌&&◌, ◌<◌, ◌-◌, nat_lt, max, reverse};
 ghost use Rattle.dr_types.specs.Scripts.{operation, vcpu_count};
-ghost use Rattle.dr_history.specs.Rules.{not_switched, op_before_stop, op_not_kicked, op_has_room, op_has_buffer, follows_script, before_fault};
+ghost use Rattle.dr_history.specs.Rules.{not_switched, op_before_stop, op_not_kicked, op_has_room};
+ghost use Rattle.dr_history.specs.Rules.{op_has_buffer, follows_script, before_fault};
 ghost use Rattle.dr_history.specs.Entries.{opens, pushes};
 ghost use Rattle.dr_history.specs.Execution.{ops, acc, is_store};
 ghost use Rattle.dr_history.specs.Vcpus.{is_full};

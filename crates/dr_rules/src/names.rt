@@ -1,7 +1,8 @@
 ghost use Rattle.std.specs.Prelude.{◌≡◌, ◌<◌, ◌^◌, reverse};
 ghost use Rattle.std.specs.List.{list_all};
 ghost use Rattle.dr_types.specs.Pages.{page_count};
-ghost use Rattle.dr_history.specs.Rules.{writes_page, is_vcpu, in_one_page, is_page, write_follows, names_exist};
+ghost use Rattle.dr_history.specs.Rules.{writes_page, is_vcpu, in_one_page, is_page, write_follows};
+ghost use Rattle.dr_history.specs.Rules.{names_exist};
 
 use dr_history::Event;
 use dr_log::Log;

@@ -1,7 +1,8 @@
 ghost use Rattle.std.specs.Prelude.{◌≡◌, ◌<◌, IfSome};
 ghost use Rattle.dr_types.specs.Pages.{page_count};
 ghost use Rattle.dr_types.specs.Scripts.{vcpu_count};
-ghost use Rattle.dr_history.specs.Rules.{pushes_next, exits_with_reason, write_is_cached, is_cached_for, opens_protected, fills_writable};
+ghost use Rattle.dr_history.specs.Rules.{pushes_next, exits_with_reason, write_is_cached};
+ghost use Rattle.dr_history.specs.Rules.{is_cached_for, opens_protected, fills_writable};
 ghost use Rattle.dr_history.specs.Vcpus.{exits_for};
 ghost use Rattle.dr_rules.specs.Named.{IsNamed};
 

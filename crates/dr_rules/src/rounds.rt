@@ -1,5 +1,6 @@
 ghost use Rattle.std.specs.Prelude.{◌≡◌};
-ghost use Rattle.dr_history.specs.Rules.{asks_in_turn, copies_next, stops_when_few, switches_when_copied};
+ghost use Rattle.dr_history.specs.Rules.{asks_in_turn, copies_next, stops_when_few};
+ghost use Rattle.dr_history.specs.Rules.{switches_when_copied};
 
 use dr_history::Event;
 use dr_log::Log;

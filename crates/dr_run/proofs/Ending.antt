@@ -9,13 +9,13 @@ use Rattle.dr_history.specs.declared.event.Event.TheVariants.{Switched}
 use Rattle.dr_history.specs.Kinds.{is_switched}
 use Rattle.dr_history.specs.Legality.{IsLegalSoFar}
 use Rattle.dr_history.specs.Times.{times}
-use Rattle.dr_law.proofs.Kept.{unswitched}
+use Rattle.dr_history_law.proofs.Kept.{unswitched}
 use Rattle.dr_turns.specs.declared.answers.RunEnd.{RunEnd}
 use Rattle.dr_turns.specs.declared.answers.RunEnd.TheVariants as end
 use Rattle.dr_bench.specs.declared.bench.BenchFault.{BenchFault}
 use Rattle.dr_bench.specs.declared.bench.BenchFault.TheVariants as fault
-use Rattle.dr_schedule.specs.Schedule.{Follows, CutAtTurn, IsScheduled}
-use Rattle.dr_schedule.proofs.Scheduled.{following_is_scheduled}
+use Rattle.dr_schedule_law.specs.Schedule.{Follows, CutAtTurn, IsScheduled}
+use Rattle.dr_schedule_law.proofs.Scheduled.{following_is_scheduled}
 use Rattle.dr_migrate.specs.Driving.{AddsRead, IsEnd}
 use Rattle.dr_run.specs.Outcomes.{EndsAs, end_of_drive, ends_switched}
 

@@ -8,7 +8,7 @@ use Rattle.dr_history.specs.declared.event.Event.TheVariants.{Switched}
 use Rattle.dr_turns.specs.Due.{run_end}
 use Rattle.dr_turns.specs.declared.answers.RunEnd.{RunEnd}
 use Rattle.dr_turns.specs.declared.answers.RunEnd.TheVariants as end
-use Rattle.dr_schedule.specs.Schedule.{IsScheduled, CutAtTurn}
+use Rattle.dr_schedule_law.specs.Schedule.{IsScheduled, CutAtTurn}
 use Rattle.dr_bench.specs.Bench.{IsPartOf}
 use Rattle.dr_bench.specs.declared.bench.BenchFault.{BenchFault}
 use Rattle.dr_bench.specs.declared.bench.BenchFault.TheVariants as fault
@@ -31,16 +31,16 @@ pub record HasSpent (guest : Guest) (past : List Event) : Type 0 where
   pub spent : run_end guest past ≡ end.Budget
   pub scheduled : IsScheduled guest past
 
--- What the events are by how the run ended. Where a put failed or memory was refused, they are blocks of the
--- schedule, cut at the end of a turn.
+-- What the events are by how the run ended. Where a put failed or memory was refused, they are
+-- blocks of the schedule, cut at the end of a turn.
 abbrev pub EndsAs : OutcomeEnd → Guest → List Event → Type 0
 EndsAs outcome.Switched guest past = HasSwitched guest past
 EndsAs outcome.Budget guest past = HasSpent guest past
 EndsAs outcome.Sink guest past = CutAtTurn guest [] past
 EndsAs outcome.Memory guest past = CutAtTurn guest [] past
 
--- what the ports then tell: Stream has grown by this stream, or by a first part of it where a put failed; the
--- other ports are what they were
+-- what the ports then tell: Stream has grown by this stream, or by a first part of it where a put
+-- failed; the other ports are what they were
 abbrev pub SendsAs : OutcomeEnd → List ℕ → Ports → Ports → Type 0
 SendsAs outcome.Sink stream old new = IsPartOf old stream new
 SendsAs e stream old new = new ≡ put_at Stream stream old

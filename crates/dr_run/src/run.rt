@@ -6,7 +6,7 @@ ghost use Rattle.dr_history.specs.Legality.{IsLegal};
 ghost use Rattle.dr_history.specs.Stream.{stream_of};
 ghost use Rattle.dr_history.specs.Times.{times};
 ghost use Rattle.dr_migrate.specs.Driving.{GoesOn};
-ghost use Rattle.dr_settle.specs.Step.{AreInStep};
+ghost use Rattle.dr_reap.specs.Harvests.{AllDeposited};
 ghost use Rattle.dr_run.specs.Outcomes.{EndsAs, HasNone, SendsAs};
 
 use crate::outcome::{Outcome, OutcomeEnd, RunOutcome, end_of};
@@ -16,7 +16,7 @@ use dr_io::{Clock, Outlet};
 use dr_machine::{Machine, Rig, new_rig};
 use dr_migrate::drive;
 use dr_ring::Name;
-use dr_rings::{RingSet, Rings};
+use dr_ring_set::{RingSet, Rings};
 use dr_types::{Guest, Memory};
 use std::alloc::Global;
 
@@ -37,7 +37,7 @@ fn make_ready<N: Name>(alloc: Global, guest: Guest, set: RingSet) -> Result<Read
     requires size { set.size ≡ guest.settings.ring }
     ensures past { IfOk result (λ r. r.machine.past ≡ []) }
     ensures over { IfOk result (λ r. r.machine.over ≡ false) }
-    ensures in_step { IfOk result (λ r. AreInStep N.guest [] r.collector) }
+    ensures all_deposited { IfOk result (λ r. AllDeposited N.guest [] r.collector) }
 {
     let Rig {
         rings,
@@ -69,7 +69,7 @@ fn drive_to_end<N: Name, O: Outlet, C: Clock>(
     ensures risen { result ≡ OutcomeEnd.Sink → Rose N.faults bench.new.faults }
 {
     let end = end_of(drive(alloc, bench, collector, rings, clock));
-    bench.keeps();
+    bench.recall_kept();
     end
 }
 
@@ -82,7 +82,7 @@ fn run<N: Name, O: Outlet, C: Clock>(
 ) -> RunOutcome<N, O>
     requires past { ready.machine.past ≡ [] }
     requires over { ready.machine.over ≡ false }
-    requires in_step { AreInStep N.guest [] ready.collector }
+    requires all_deposited { AllDeposited N.guest [] ready.collector }
     requires ports { O.told out ≡ N.ports }
     requires faults { O.faults out ≡ N.faults }
     ensures none { result.outcome.machine ≡ None

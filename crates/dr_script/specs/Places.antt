@@ -9,9 +9,11 @@ use Rattle.dr_types.specs.Scripts.{expanded, repeated}
 abbrev pub rest_of : List Item → ℕ → ℕ → List Op
 rest_of [] done place = []
 rest_of (One op ∷ later) done place = op ∷ expanded later
-rest_of (Rep n body ∷ later) done place = drop place body ++ repeated (n - suc done) body ++ expanded later
+rest_of (Rep n body ∷ later) done place =
+    drop place body ++ repeated (n - suc done) body ++ expanded later
 
--- the operations from a place on: an item, how often its part was repeated, and a place in that part
+-- the operations from a place on: an item, how often its part was repeated, and a place in that
+-- part
 unfoldable pub rest : List Item → ℕ → ℕ → ℕ → List Op
 rest items item done place = rest_of (drop item items) done place
 

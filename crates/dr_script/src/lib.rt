@@ -2,9 +2,12 @@
 #![tactic(auto)]
 
 mod reader;
+#[cfg(test)]
+mod tests;
 
 ghost use Rattle.std.specs.Prelude.{◌≡◌, ℕ, List, Some, IfSome, ◌<◌, length, drop, slice_get};
-ghost use Rattle.dr_types.specs.Scripts.{written_out, repeated, expanded, operation, vcpu_count, next_acc as acc_after};
+ghost use Rattle.dr_types.specs.Scripts.{written_out, repeated, expanded, operation, vcpu_count};
+ghost use Rattle.dr_types.specs.Scripts.{next_acc as acc_after};
 ghost use Rattle.dr_types.specs.Validity.{IsScript, IsValid};
 ghost use Rattle.dr_types.specs.declared.guest.Guest.{Guest};
 ghost use Rattle.dr_types.specs.declared.guest.SlotRow.{SlotRow};
@@ -94,7 +97,8 @@ pub fn valid_scripts_run()
     ensures { (slots : List SlotRow) (script : List Item) → IsScript slots script → AllRun script }
 {}
 
-/// Each op of a valid guest has its numbers in their ranges and its bytes in one page, or is a halt.
+/// Each op of a valid guest has its numbers in their ranges and its bytes in one page, or is a
+/// halt.
 pub fn valid_ops_fit()
     ensures { (guest : Guest) (v i : ℕ) → IsValid guest →
         IfSome (operation guest v i) (IsOpOrHalt guest.slots) }

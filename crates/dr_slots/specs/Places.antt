@@ -1,12 +1,14 @@
 -- Where the pages of a guest's slots lie.
-use Rattle.std.specs.Prelude.{ℕ, ◌+◌, ◌-◌, nat_lt, if◌then◌else◌, ◌==◌, List, [], ◌∷◌, Option, Some, None, map}
+use Rattle.std.specs.Prelude.{ℕ, ◌+◌, ◌-◌, nat_lt, if◌then◌else◌, ◌==◌, List, [], ◌∷◌, Option, Some}
+use Rattle.std.specs.Prelude.{None, map}
 use Rattle.dr_types.specs.declared.guest.SlotRow.{SlotRow}
 use Rattle.std.specs.List.{flat_map, range_with_len}
 use Rattle.dr_types.specs.declared.entry.Entry.{Entry}
 
 -- the pages of a slot, by their offset
 abbrev pub pages_of : SlotRow → List Entry
-pages_of row = map (λ offset. record { slot = row.id; offset = offset }) (range_with_len 0 row.pages)
+pages_of row =
+    map (λ offset. record { slot = row.id; offset = offset }) (range_with_len 0 row.pages)
 
 -- every page, slot by slot
 abbrev pub all_pages : List SlotRow → List Entry

@@ -18,19 +18,19 @@ use Rattle.dr_history.specs.Memory.{page_bytes}
 use Rattle.dr_history.specs.Protection.{writable}
 use Rattle.dr_history.specs.Rules.{names_exist, deposits_pushed, fills_writable}
 use Rattle.dr_history.specs.Legality.{IsLegalSoFar, broken}
-use Rattle.dr_law.proofs.Kept.{keeps}
-use Rattle.dr_law.proofs.Outstanding.{pushed_opened}
-use Rattle.dr_law.proofs.Limits.{fits_rate, fits_throttle}
+use Rattle.dr_history_law.proofs.Kept.{keeps}
+use Rattle.dr_history_law.proofs.Outstanding.{pushed_opened}
+use Rattle.dr_history_law.proofs.Limits.{fits_rate, fits_throttle}
 use Rattle.dr_state.specs.Rows.{table, rows_of, row_of, HasRoom, IsWithin}
 use Rattle.dr_state.specs.Pages.{IsPageWithin, IsProtection, FillFits, ClosingFits}
 use Rattle.dr_state.specs.Opened.{firsts, rows_are, entries_of, entry_of, OpeningFits, EntryFits}
 use Rattle.dr_state.specs.Scripts.{rest_of}
 use Rattle.dr_state.specs.Stores.{StoresWithin, StoreFits}
 use Rattle.dr_state.specs.Spans.{FitsEntries, FitsSleep, SpanFits}
-use Rattle.dr_state.specs.Whole.{IsReplay, IsNamed, CanReplay, CanTake}
+use Rattle.dr_state.specs.Whole.{IsStateOf, IsNamed, FitsState, CanTake}
 use Rattle.dr_state.specs.declared.vcpus.Vcpu.{Vcpu}
-use Rattle.dr_state.specs.declared.ring.Entry.{Entry}
-use Rattle.dr_state.specs.declared.replay.Replay.{Replay}
+use Rattle.dr_state.specs.declared.entry_fields.OpenedEntry.{OpenedEntry}
+use Rattle.dr_state.specs.declared.state_fields.State.{State}
 use Rattle.dr_state.proofs.Tables.{get-table, length-table}
 use Rattle.dr_state.proofs.Turns.{length-rows}
 
@@ -105,14 +105,14 @@ unfolding names_exist
 stores_within guest past (Write v i a l x) h = leb-true (a % 4096 + l) 4096 (and_parts _ _ (and_parts _ _ h).1).1
 stores_within guest past e h = tt
 
-pub memory_sized : (guest : Guest) (past : List Event) (it : Replay) → IsReplay guest past it → length it.memory.pages ≡ page_count guest
+pub memory_sized : (guest : Guest) (past : List Event) (it : State) → IsStateOf guest past it → length it.memory.pages ≡ page_count guest
 memory_sized guest past it h = ap length h.is_memory ∙ length-table (λ q. page_bytes guest q past) (page_count guest)
 
-pub rows_sized : (guest : Guest) (past : List Event) (it : Replay) → IsReplay guest past it → length it.entries.rows.items ≡ vcpu_count guest
+pub rows_sized : (guest : Guest) (past : List Event) (it : State) → IsStateOf guest past it → length it.entries.rows.items ≡ vcpu_count guest
 unfolding rows_are
-rows_sized guest past it h = sym (length-map it.entries.rows.items (λ (r : List Entry × ℕ). r.0)) ∙ ap length h.are_entries ∙ length-table (entries_of past) (vcpu_count guest)
+rows_sized guest past it h = sym (length-map it.entries.rows.items (λ (r : List OpenedEntry × ℕ). r.0)) ∙ ap length h.are_entries ∙ length-table (entries_of past) (vcpu_count guest)
 
-pub named : (guest : Guest) (past : List Event) (e : Event) (it : Replay) → IsReplay guest past it → names_exist guest past e ≡ true → IsNamed it e
+pub named : (guest : Guest) (past : List Event) (e : Event) (it : State) → IsStateOf guest past it → names_exist guest past e ≡ true → IsNamed it e
 named guest past e it h n =
     let v : IsWithin (vcpu_count guest) e = vcpu_within guest past e n in
     let p : IsPageWithin (page_count guest) e = page_within guest past e n in
@@ -122,13 +122,13 @@ named guest past e it h n =
       vcpus = at (length it.vcpus) (ap length h.are_vcpus ∙ length-rows (vcpu_count guest) past);
       readers = at it.running.readers.len (it.running.readers.ok.0 ∙ ap length h.is_running.are_rests ∙ length-table (rest_of guest past) (vcpu_count guest));
       rows = at it.entries.rows.len (it.entries.rows.ok.0 ∙ rows_sized guest past it h);
-      shield = at it.protection.permissions.vcpus h.shield_vcpus;
-      pages = on it.protection.permissions.pages h.shield_pages;
+      protection = at it.protection.permissions.vcpus h.protection_vcpus;
+      pages = on it.protection.permissions.pages h.protection_pages;
       memory = on (length it.memory.pages) (memory_sized guest past it h);
       held = at it.throttles.list.len (it.throttles.list.ok.0 ∙ h.are_throttles.sized);
     }
 
-spans : (guest : Guest) (past : List Event) (e : Event) (rows : List Vcpu) (list : List Throttle) → CanReplay guest → IsLegalSoFar guest (e ∷ past) → rows ≡ rows_of (vcpu_count guest) past → (1 ≤ guest.settings.quota → list ≡ table (λ v. throttle guest v past) (vcpu_count guest)) → SpanFits guest.settings.quota e rows list
+spans : (guest : Guest) (past : List Event) (e : Event) (rows : List Vcpu) (list : List Throttle) → FitsState guest → IsLegalSoFar guest (e ∷ past) → rows ≡ rows_of (vcpu_count guest) past → (1 ≤ guest.settings.quota → list ≡ table (λ v. throttle guest v past) (vcpu_count guest)) → SpanFits guest.settings.quota e rows list
 unfolding rows_of
 spans guest past (Synced r at pages) rows list can legal are held = λ some. (
   subst (λ (xs : List Vcpu). All FitsEntries xs) (sym are) (all_table FitsEntries (row_of past) (vcpu_count guest) (λ v lt. (fits_rate guest past r at v pages can.limits legal).entries)),
@@ -145,12 +145,12 @@ deposit_facts guest past v from to legal =
     let o : pushes v past ≤ opens v past = pushed_opened guest past v legal.1 in
     (ltb-true from to a.0, omega (arith, le, o))
 
-get_first : (rows : List (List Entry × ℕ)) (v : ℕ) (d : List Entry × ℕ) → (get_or rows v d).0 ≡ get_or (firsts rows) v d.0
+get_first : (rows : List (List OpenedEntry × ℕ)) (v : ℕ) (d : List OpenedEntry × ℕ) → (get_or rows v d).0 ≡ get_or (firsts rows) v d.0
 get_first [] v d = refl
 get_first (x ∷ xs) zero d = refl
 get_first (x ∷ xs) (suc v) d = get_first xs v d
 
-entry_fits : (guest : Guest) (past : List Event) (e : Event) (n : ℕ) (rows : List (List Entry × ℕ)) → n ≡ vcpu_count guest → IsLegalSoFar guest (e ∷ past) → firsts rows ≡ rows_are n past → IsWithin n e → OpeningFits e rows → EntryFits e rows
+entry_fits : (guest : Guest) (past : List Event) (e : Event) (n : ℕ) (rows : List (List OpenedEntry × ℕ)) → n ≡ vcpu_count guest → IsLegalSoFar guest (e ∷ past) → firsts rows ≡ rows_are n past → IsWithin n e → OpeningFits e rows → EntryFits e rows
 unfolding rows_are
 entry_fits guest past (Opened v k page) n rows size legal are within fits = fits
 entry_fits guest past (Deposited v from to) n rows size legal are within fits =
@@ -166,14 +166,14 @@ entry_fits guest past (Deposited v from to) n rows size legal are within fits =
 entry_fits guest past e n rows size legal are within fits = tt
 
 -- a page that is filled may be written
-fill_fits : (guest : Guest) (past : List Event) (e : Event) (it : Replay) → names_exist guest past e ≡ true → fills_writable guest past e ≡ true → IsProtection past it.protection → IsPageWithin it.protection.permissions.pages e → FillFits e it.protection.permissions
+fill_fits : (guest : Guest) (past : List Event) (e : Event) (it : State) → names_exist guest past e ≡ true → fills_writable guest past e ≡ true → IsProtection past it.protection → IsPageWithin it.protection.permissions.pages e → FillFits e it.protection.permissions
 unfolding fills_writable
 fill_fits guest past (Filled v page) it names holds are within =
     let may : writable page past ≡ true = (and_parts _ _ (and_parts _ _ holds).0).1 in
     ap (λ xs. get_or xs page false) are.is_writable ∙ get-table (λ q. writable q past) it.protection.permissions.pages page false within ∙ may
 fill_fits guest past e it names holds are within = tt
 
-pub can_take : (guest : Guest) (past : List Event) (e : Event) (it : Replay) → CanReplay guest → IsReplay guest past it → broken guest past e ≡ None → length past < 2 ^ 63 → OpeningFits e it.entries.rows.items → ClosingFits e it.protection.closing.1 → StoreFits guest e it.memory → CanTake guest e it
+pub can_take : (guest : Guest) (past : List Event) (e : Event) (it : State) → FitsState guest → IsStateOf guest past it → broken guest past e ≡ None → length past < 2 ^ 63 → OpeningFits e it.entries.rows.items → ClosingFits e it.protection.closing.1 → StoreFits guest e it.memory → CanTake guest e it
 can_take guest past e it can h kept few opening room store =
     let legal : IsLegalSoFar guest (e ∷ past) = (kept, h.legal) in
     let names : names_exist guest past e ≡ true = (keeps guest past e kept).names_exist_holds in
@@ -181,7 +181,7 @@ can_take guest past e it can h kept few opening room store =
       named = named guest past e it h names;
       counts = rooms it.vcpus (vcpu_count guest) past h.are_vcpus few;
       entry = entry_fits guest past e (vcpu_count guest) it.entries.rows.items refl legal h.are_entries (vcpu_within guest past e names) opening;
-      fill = fill_fits guest past e it names (keeps guest past e kept).fills_writable_holds h.is_protection (rw h.shield_pages (page_within guest past e names));
+      fill = fill_fits guest past e it names (keeps guest past e kept).fills_writable_holds h.is_protection (rw h.protection_pages (page_within guest past e names));
       closing = room;
       asks = omega (arith, few, ap (λ r. r.asks) h.are_rounds, count_few is_asked past);
       copies = omega (arith, few, ap (λ r. r.copies) h.are_rounds, count_since_few is_copied is_synced past);

@@ -9,7 +9,7 @@ use Rattle.dr_history.specs.Entries.{page_of_entry}
 use Rattle.dr_history.specs.Protection.{started, opened_last, resets_page}
 use Rattle.dr_history.specs.Rules.{opens_protected, fills_writable, starts_paced}
 use Rattle.dr_history.specs.Legality.{IsLegalSoFar}
-use Rattle.dr_law.proofs.Kept.{keeps}
+use Rattle.dr_history_law.proofs.Kept.{keeps}
 use Rattle.dr_state.specs.Pages.{IsUntouched}
 
 -- an Opened and a Filled come after Start

@@ -6,11 +6,11 @@ use Rattle.dr_types.specs.declared.guest.SlotRow.{SlotRow}
 use Rattle.dr_types.specs.declared.guest.Item.{Item}
 use Rattle.dr_types.specs.declared.guest.Guest.{Guest}
 use Rattle.dr_types.specs.Validity.{AreScripts, IsValid}
-use Rattle.dr_law.specs.Limits.{FitsLimits}
-use Rattle.dr_law.specs.Room.{FitsRing}
+use Rattle.dr_history_law.specs.Limits.{FitsLimits}
+use Rattle.dr_history_law.specs.Room.{FitsRing}
 use Rattle.dr_script.specs.Places.{AllRun}
 use Rattle.dr_script.proofs.Runs.{script_runs}
-use Rattle.dr_state.specs.Whole.{CanReplay}
+use Rattle.dr_state.specs.Whole.{FitsState}
 
 run_at : (slots : List SlotRow) (scripts : List (List Item)) (v : ℕ) (d : List Item)
     → AreScripts slots scripts → v < length scripts → AllRun (get_or scripts v d)
@@ -27,8 +27,8 @@ fits_limits guest valid = record { ring = valid.settings.ring_most; scripts = va
 pub fits_ring : (guest : Guest) → IsValid guest → FitsRing guest
 fits_ring guest valid = record { reserve = valid.settings.reserve_some; ring = valid.settings.room }
 
-pub can_replay : (guest : Guest) → IsValid guest → CanReplay guest
-can_replay guest valid = record {
+pub fits_state : (guest : Guest) → IsValid guest → FitsState guest
+fits_state guest valid = record {
   pages = omega (arith, valid.slots.pages);
   vcpus = omega (arith, valid.vcpus);
   slots = valid.slots;

@@ -1,34 +1,38 @@
 -- What is kept of the pages, so that nobody looks back.
-use Rattle.std.specs.Prelude.{◌≡◌, ℕ, ◌*◌, ◌/◌, ◌%◌, ◌<◌, ◌≤◌, Bool, true, false, List, Option, None}
+use Rattle.std.specs.Prelude.{◌≡◌, ℕ, ◌*◌, ◌/◌, ◌%◌, ◌<◌, ◌≤◌, Bool, true, false, List, Option}
+use Rattle.std.specs.Prelude.{None}
 use Rattle.dr_history.specs.declared.event.Event.{Event}
-use Rattle.dr_history.specs.declared.event.Event.TheVariants.{Start, Paint, Opened, Filled, Reset, Flushed, Copied}
+use Rattle.dr_history.specs.declared.event.Event.TheVariants.{Start, Paint, Opened, Filled, Reset}
+use Rattle.dr_history.specs.declared.event.Event.TheVariants.{Flushed, Copied}
 use Rattle.dr_history.specs.Entries.{page_of_entry}
-use Rattle.dr_history.specs.Protection as shield
+use Rattle.dr_history.specs.Protection as protection
 use Rattle.dr_history.specs.Dirty as log
 use Rattle.dr_protect.specs.Permissions.{Permissions, is_writable}
 use Rattle.dr_state.specs.Rows.{table}
-use Rattle.dr_state.specs.declared.shield.Protection.{Protection}
+use Rattle.dr_state.specs.declared.protection_fields.Protection.{Protection}
 
 -- the flags of so many vCPUs and pages, the pages of the first vCPU before those of the second
 abbrev pub cached_cell : ℕ → List Event → ℕ → Bool
-cached_cell pages past cell = shield.cached (cell / pages) (cell % pages) past
+cached_cell pages past cell = protection.cached (cell / pages) (cell % pages) past
 
 -- each flag is what the events say
-pub record AreFlags (n p : ℕ) (past : List Event) (writable cached closing dirty : List Bool) : Type 0 where
-  pub is_writable : writable ≡ table (λ page. shield.writable page past) p
+pub record AreFlags (n p : ℕ) (past : List Event)
+    (writable cached closing dirty : List Bool) : Type 0 where
+  pub is_writable : writable ≡ table (λ page. protection.writable page past) p
   pub is_cached : cached ≡ table (cached_cell p past) (n * p)
-  pub is_closing : closing ≡ table (λ page. shield.closing page past) p
+  pub is_closing : closing ≡ table (λ page. protection.closing page past) p
   pub is_dirty : dirty ≡ table (λ page. log.dirty page past) p
 
 -- what is kept are the flags that the events say
 abbrev pub IsProtection : List Event → Protection → Type 0
 IsProtection past it =
-    AreFlags it.permissions.vcpus it.permissions.pages past it.permissions.writable it.permissions.cached it.closing.0 it.dirty
+    AreFlags it.permissions.vcpus it.permissions.pages past
+    it.permissions.writable it.permissions.cached it.closing.0 it.dirty
 
 -- no page was opened yet, by no vCPU, and none is cached
 pub record IsUntouched (past : List Event) : Type 0 where
-  pub unopened : (page : ℕ) → shield.opened_last page past ≡ false
-  pub uncached : (v page : ℕ) → shield.cached v page past ≡ false
+  pub unopened : (page : ℕ) → protection.opened_last page past ≡ false
+  pub uncached : (v page : ℕ) → protection.cached v page past ≡ false
   pub no_entry : (v k : ℕ) → page_of_entry v k past ≡ None
 
 -- the page of the entry that an event resets
@@ -57,14 +61,15 @@ ClosingFits e room = Unit {0}
 -- as many vCPUs and pages as before
 abbrev pub SameSizes : Protection → Protection → Type 0
 SameSizes old new =
-    (new.permissions.vcpus ≡ old.permissions.vcpus) × (new.permissions.pages ≡ old.permissions.pages)
+    (new.permissions.vcpus ≡ old.permissions.vcpus)
+    × (new.permissions.pages ≡ old.permissions.pages)
 
 -- no flag shows the event
-abbrev pub IsUnshielded : List Event → Event → Type 0
-IsUnshielded past (Start at) = ⊥
-IsUnshielded past (Opened v k page) = ⊥
-IsUnshielded past (Filled v page) = ⊥
-IsUnshielded past (Reset v k) = page_of_entry v k past ≡ None
-IsUnshielded past Flushed = ⊥
-IsUnshielded past (Copied r page) = ⊥
-IsUnshielded past e = Unit {0}
+abbrev pub IsNoProtection : List Event → Event → Type 0
+IsNoProtection past (Start at) = ⊥
+IsNoProtection past (Opened v k page) = ⊥
+IsNoProtection past (Filled v page) = ⊥
+IsNoProtection past (Reset v k) = page_of_entry v k past ≡ None
+IsNoProtection past Flushed = ⊥
+IsNoProtection past (Copied r page) = ⊥
+IsNoProtection past e = Unit {0}

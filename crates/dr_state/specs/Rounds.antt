@@ -7,10 +7,11 @@ use Rattle.dr_history.specs.Lookback.{since}
 use Rattle.dr_history.specs.Kinds.{is_stopped, is_asked, is_synced, is_switched}
 use Rattle.dr_history.specs.Protection.{started}
 use Rattle.dr_history.specs.Vcpus.{stopped}
-use Rattle.dr_history.specs.Rounds.{asks, unanswered, last_synced, answered_round, answered_pages, opens_round}
-use Rattle.dr_law.specs.Copies.{copies}
-use Rattle.dr_state.specs.declared.round_state.Answer.{Answer}
-use Rattle.dr_state.specs.declared.round_state.Rounds.{Rounds}
+use Rattle.dr_history.specs.Rounds.{asks, unanswered, last_synced, answered_round, answered_pages}
+use Rattle.dr_history.specs.Rounds.{opens_round}
+use Rattle.dr_history_law.specs.Copies.{copies}
+use Rattle.dr_state.specs.declared.round_fields.Answer.{Answer}
+use Rattle.dr_state.specs.declared.round_fields.Rounds.{Rounds}
 
 -- what is kept of the last answer
 abbrev pub answer_of : Guest → Option (Event × List Event) → Option Answer

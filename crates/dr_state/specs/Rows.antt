@@ -1,7 +1,11 @@
 -- What is kept of each vCPU, so that nobody looks back.
 use Rattle.std.specs.Prelude.{◌≡◌, ℕ, ◌+◌, ◌<◌, ◌^◌, true, false, List, map}
 use Rattle.dr_history.specs.declared.event.Event.{Event}
-use Rattle.dr_history.specs.declared.event.Event.TheVariants.{Start, Read, Write, Paint, Local, Halted, Opened, Filled, Pushed, Exited, Deposited, Reset, Flushed, Synced, Copied, Throttled, Stopped, Switched}
+use Rattle.dr_history.specs.declared.event.Event.TheVariants.{Start, Read, Write, Paint, Local}
+use Rattle.dr_history.specs.declared.event.Event.TheVariants.{Halted, Opened, Filled, Pushed}
+use Rattle.dr_history.specs.declared.event.Event.TheVariants.{Exited, Deposited, Reset, Flushed}
+use Rattle.dr_history.specs.declared.event.Event.TheVariants.{Synced, Copied, Throttled, Stopped}
+use Rattle.dr_history.specs.declared.event.Event.TheVariants.{Switched}
 use Rattle.dr_history.specs.Lookback.{count, since, before, below}
 use Rattle.dr_history.specs.Kinds.{is_op_of, is_pushed_of, is_asked}
 use Rattle.dr_history.specs.Entries.{opens, pushes, resets}
@@ -48,7 +52,8 @@ executed_row row = record row { ops = row.ops + 1; recent = row.recent + 1; in_g
 
 -- after its last operation
 abbrev pub halted_row : Vcpu → Vcpu
-halted_row row = record row { ops = row.ops + 1; recent = row.recent + 1; in_guest = true; halted = true }
+halted_row row =
+    record row { ops = row.ops + 1; recent = row.recent + 1; in_guest = true; halted = true }
 
 -- after it opened an entry
 abbrev pub opened_row : Vcpu → Vcpu

@@ -7,7 +7,7 @@ use Rattle.dr_history.specs.declared.event.Event.{Event}
 use Rattle.dr_history.specs.declared.event.Event.TheVariants.{Read, Write, Paint, Local, Halted}
 use Rattle.dr_history.specs.Execution.{ops, acc}
 use Rattle.dr_state.specs.Rows.{table}
-use Rattle.dr_state.specs.declared.scripts.Running.{Running}
+use Rattle.dr_state.specs.declared.script_fields.Running.{Running}
 
 -- what the vCPU has still to execute
 abbrev pub rest_of : Guest → List Event → ℕ → List Op

@@ -9,7 +9,7 @@ use Rattle.dr_history.specs.declared.event.Event.TheVariants.{Start, Synced, Thr
 use Rattle.dr_history.specs.Throttles.{throttle, next_throttled, last_time}
 use Rattle.dr_state.specs.Rows.{table}
 use Rattle.dr_state.specs.declared.vcpus.Vcpu.{Vcpu}
-use Rattle.dr_state.specs.declared.held.Throttles.{Throttles}
+use Rattle.dr_state.specs.declared.throttle_fields.Throttles.{Throttles}
 
 -- each throttle is the formula's over all answers so far, where there is a quota
 pub record AreHeld (guest : Guest) (past : List Event)
@@ -17,7 +17,8 @@ pub record AreHeld (guest : Guest) (past : List Event)
   pub is_next : next ≡ next_throttled past
   pub is_last : last ≡ last_time past
   pub sized : length list ≡ vcpu_count guest
-  pub are_held : 1 ≤ guest.settings.quota → list ≡ table (λ v. throttle guest v past) (vcpu_count guest)
+  pub are_held : 1 ≤ guest.settings.quota
+      → list ≡ table (λ v. throttle guest v past) (vcpu_count guest)
 
 -- what is kept are the throttles that the events say
 abbrev pub AreThrottles : Guest → List Event → Throttles → Type 0

@@ -7,7 +7,7 @@ use Rattle.dr_types.specs.Validity.{AreSlots}
 use Rattle.dr_history.specs.declared.event.Event.{Event}
 use Rattle.dr_history.specs.Memory.{memory}
 use Rattle.dr_history.specs.Legality.{IsLegalSoFar}
-use Rattle.dr_law.specs.Limits.{FitsLimits}
+use Rattle.dr_history_law.specs.Limits.{FitsLimits}
 use Rattle.dr_script.specs.Places.{AllRun}
 use Rattle.dr_state.specs.Rows.{rows_of, IsWithin, HasRoom}
 use Rattle.dr_state.specs.Pages.{IsProtection, IsPageWithin, FillFits, ClosingFits}
@@ -16,15 +16,15 @@ use Rattle.dr_state.specs.Opened.{AreEntries, EntryFits}
 use Rattle.dr_state.specs.Rounds.{rounds_of}
 use Rattle.dr_state.specs.Spans.{AreThrottles, SpanFits}
 use Rattle.dr_state.specs.Stores.{StoresWithin, StoreFits}
-use Rattle.dr_state.specs.declared.replay.Replay.{Replay}
+use Rattle.dr_state.specs.declared.state_fields.State.{State}
 
 -- the events are legal so far, and each part of the state is what they leave
-pub record IsReplay (guest : Guest) (past : List Event) (it : Replay) : Type 0 where
+pub record IsStateOf (guest : Guest) (past : List Event) (it : State) : Type 0 where
   pub legal : IsLegalSoFar guest past
   pub are_vcpus : it.vcpus ≡ rows_of (vcpu_count guest) past
   pub is_protection : IsProtection past it.protection
-  pub shield_vcpus : it.protection.permissions.vcpus ≡ vcpu_count guest
-  pub shield_pages : it.protection.permissions.pages ≡ page_count guest
+  pub protection_vcpus : it.protection.permissions.vcpus ≡ vcpu_count guest
+  pub protection_pages : it.protection.permissions.pages ≡ page_count guest
   pub is_running : IsRunning guest past it.running
   pub are_entries : AreEntries (vcpu_count guest) past it.entries
   pub are_rounds : it.rounds ≡ rounds_of guest past
@@ -32,17 +32,17 @@ pub record IsReplay (guest : Guest) (past : List Event) (it : Replay) : Type 0 w
   pub are_throttles : AreThrottles guest past it.throttles
 
 -- the vCPU and the page that an event names are in the state
-pub record IsNamed (it : Replay) (e : Event) : Type 0 where
+pub record IsNamed (it : State) (e : Event) : Type 0 where
   pub vcpus : IsWithin (length it.vcpus) e
   pub readers : IsWithin (vec_len it.running.readers) e
   pub rows : IsWithin (vec_len it.entries.rows) e
-  pub shield : IsWithin it.protection.permissions.vcpus e
+  pub protection : IsWithin it.protection.permissions.vcpus e
   pub pages : IsPageWithin it.protection.permissions.pages e
   pub memory : IsPageWithin (length it.memory.pages) e
   pub held : IsWithin (vec_len it.throttles.list) e
 
 -- the guest is within the limits, and no repetition of its scripts is empty
-pub record CanReplay (guest : Guest) : Type 0 where
+pub record FitsState (guest : Guest) : Type 0 where
   pub pages : page_count guest < 2 ^ 32
   pub vcpus : length guest.scripts < 2 ^ 32
   pub slots : AreSlots guest.slots
@@ -53,7 +53,7 @@ pub record CanReplay (guest : Guest) : Type 0 where
   pub run : All AllRun guest.scripts
 
 -- the state can take the event
-pub record CanTake (guest : Guest) (e : Event) (it : Replay) : Type 0 where
+pub record CanTake (guest : Guest) (e : Event) (it : State) : Type 0 where
   pub named : IsNamed it e
   pub counts : All HasRoom it.vcpus
   pub entry : EntryFits e it.entries.rows.items

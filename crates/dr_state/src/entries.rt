@@ -1,36 +1,38 @@
-ghost use Rattle.std.specs.Prelude.{◌≡◌, ◌+◌, ◌<◌, ◌≤◌, [], ◌∷◌, ◌++◌, false, ℕ, List, length, slice_index, vec_len, Option, Some, None, get_or, OnOk, IfOk};
+ghost use Rattle.std.specs.Prelude.{◌≡◌, ◌+◌, ◌<◌, ◌≤◌, [], ◌∷◌, ◌++◌, false, ℕ, List, length};
+ghost use Rattle.std.specs.Prelude.{slice_index, vec_len, Option, Some, None, get_or, OnOk, IfOk};
 ghost use Rattle.std.specs.List.{list_any};
 ghost use Rattle.dr_history.specs.declared.event.Event.{Event};
 ghost use Rattle.dr_history.specs.Entries.{opens};
 ghost use Rattle.dr_history.specs.Rules.{deposits_entry};
-ghost use Rattle.dr_state.specs.Opened.{AreEntries, IsNoEntry, entries_of, firsts, HasRoomAt, IsMarked, EntryFits, OpensNext};
+ghost use Rattle.dr_state.specs.Opened.{AreEntries, IsNoEntry, entries_of, firsts, HasRoomAt};
+ghost use Rattle.dr_state.specs.Opened.{IsMarked, EntryFits, OpensNext};
 ghost use Rattle.dr_types.specs.declared.guest.Guest.{Guest};
 ghost use Rattle.dr_history.specs.Legality.{IsLegalSoFar};
 ghost use Rattle.dr_state.specs.Rows.{IsWithin};
 ghost use Rattle.dr_history.specs.Entries.{page_of_entry};
-ghost use Rattle.dr_state.specs.declared.ring.Entry.{Entry};
+ghost use Rattle.dr_state.specs.declared.entry_fields.OpenedEntry.{OpenedEntry};
 
-use crate::ring::{Entries, Entry};
-use dr_flags::Roomy;
+use crate::entry_fields::{OpenedEntries, OpenedEntry};
 use dr_history::Event;
+use dr_marks::Roomy;
 use dr_types::Memory;
 use std::alloc::Global;
 
-impl Entries {
+impl OpenedEntries {
     /// The entries of so many vCPUs, before any event.
     #[tactic(auto, using(crate::proofs::Firsts::entries_more, crate::proofs::Firsts::no_entries))]
-    pub fn new(alloc: Global, count: usize) -> Result<Entries, Memory>
+    pub fn new(alloc: Global, count: usize) -> Result<OpenedEntries, Memory>
         ensures { IfOk result (λ it. AreEntries count [] it) }
     {
         let mut rows = Vec::new(alloc);
         for v in 0..count {
             rows.push(Roomy::new(alloc))?;
         }
-        Ok(Entries { rows })
+        Ok(OpenedEntries { rows })
     }
 
     /// The entries of a vCPU.
-    pub fn of(&self, v: u32) -> &[Entry]
+    pub fn of(&self, v: u32) -> &[OpenedEntry]
         requires { v < vec_len self.now.rows }
         ensures { (n : ℕ) (past : List Event) → AreEntries n past self.now
             → result.now ≡ entries_of past v }
@@ -83,17 +85,18 @@ impl Entries {
             → list_any (deposits_entry v k) past ≡ false → AreEntries n past self.old
             → AreEntries n (Event.Opened v k page ∷ past) self.new }
     {
-        self.rows[v as usize].push_kept(Entry {
+        self.rows[v as usize].push_kept(OpenedEntry {
             page,
             deposited: false,
         });
     }
 
-    /// Entries of a vCPU are deposited.
+    /// OpenedEntries of a vCPU are deposited.
     fn deposited(&mut self, v: u32, from: u64, to: u64)
         requires vcpu { v < vec_len self.old.rows }
         requires order { from ≤ to }
-        requires opened { (d : List Entry × ℕ) → to ≤ length (get_or self.old.rows.items v d).0 }
+        requires opened { (d : List OpenedEntry × ℕ)
+            → to ≤ length (get_or self.old.rows.items v d).0 }
         ensures { (n : ℕ) (past : List Event) → AreEntries n past self.old
             → AreEntries n (Event.Deposited v from to ∷ past) self.new }
     {
@@ -107,7 +110,7 @@ impl Entries {
 }
 
 /// The entries from one number up to another are deposited.
-fn mark(row: &mut Roomy<Entry>, from: u64, to: u64)
+fn mark(row: &mut Roomy<OpenedEntry>, from: u64, to: u64)
     requires order { from ≤ to }
     requires within { to ≤ length row.old.0 }
     ensures { IsMarked from to row.old.0 row.new.0 }

@@ -2,24 +2,24 @@
 #![tactic(auto)]
 
 mod entries;
-mod held;
+mod entry_fields;
 mod memory;
 mod protection;
-mod replay;
-mod ring;
-mod round_state;
+mod protection_fields;
+mod round_fields;
 mod rounds;
 mod running;
-mod scripts;
-mod shield;
+mod script_fields;
+mod state;
+mod state_fields;
+mod throttle_fields;
 mod throttles;
-mod turn;
 mod vcpus;
 
-pub use held::Throttles;
-pub use replay::Replay;
-pub use ring::{Entries, Entry};
-pub use round_state::{Answer, Rounds};
-pub use scripts::Running;
-pub use shield::Protection;
+pub use entry_fields::{OpenedEntries, OpenedEntry};
+pub use protection_fields::Protection;
+pub use round_fields::{Answer, Rounds};
+pub use script_fields::Running;
+pub use state_fields::State;
+pub use throttle_fields::Throttles;
 pub use vcpus::{Vcpu, Vcpus};

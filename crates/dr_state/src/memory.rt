@@ -1,4 +1,5 @@
-ghost use Rattle.std.specs.Prelude.{◌≡◌, ◌+◌, ◌%◌, ◌≤◌, ◌<◌, ◌^◌, ◌∷◌, true, ℕ, List, Some, length, OnOk};
+ghost use Rattle.std.specs.Prelude.{◌≡◌, ◌+◌, ◌%◌, ◌≤◌, ◌<◌, ◌^◌, ◌∷◌, true, ℕ, List, Some, length};
+ghost use Rattle.std.specs.Prelude.{OnOk};
 ghost use Rattle.dr_types.specs.Pages.{page_of_address, page_count};
 ghost use Rattle.dr_types.specs.declared.guest.Guest.{Guest};
 ghost use Rattle.dr_history.specs.declared.event.Event.{Event};
@@ -72,7 +73,8 @@ fn stored(store: &mut PageStore, page: u32, at: u32, len: u32, value: u64)
 fn painted(store: &mut PageStore, page: u32, byte: u8)
     requires page { page < length store.old.pages }
     requires room { has_room page store.old ≡ true }
-    ensures pages { (guest : Guest) (past : List Event) (v i : ℕ) → store.old.pages ≡ memory guest past
+    ensures pages { (guest : Guest) (past : List Event) (v i : ℕ)
+        → store.old.pages ≡ memory guest past
         → store.new.pages ≡ memory guest (Event.Paint v i page byte ∷ past) }
     ensures rooms { store.new.rooms ≡ store.old.rooms }
 {

@@ -1,21 +1,23 @@
-ghost use Rattle.std.specs.Prelude.{◌≡◌, ◌<◌, ◌≤◌, [], ◌∷◌, true, ℕ, List, Some, IfSome, IfOk, length};
+ghost use Rattle.std.specs.Prelude.{◌≡◌, ◌<◌, ◌≤◌, [], ◌∷◌, true, ℕ, List, Some, IfSome, IfOk};
+ghost use Rattle.std.specs.Prelude.{length};
 ghost use Rattle.dr_types.specs.Pages.{pages_of_slots};
 ghost use Rattle.dr_types.specs.Validity.{AreSlots};
 ghost use Rattle.dr_types.specs.declared.guest.Guest.{Guest};
-ghost use Rattle.dr_flags.specs.Marked.{AllUnder};
+ghost use Rattle.dr_marks.specs.Marked.{AllUnder};
 ghost use Rattle.dr_protect.specs.Permissions.{is_writable};
 ghost use Rattle.dr_state.specs.Sets.{with_set};
 ghost use Rattle.dr_history.specs.declared.event.Event.{Event};
 ghost use Rattle.dr_history.specs.Legality.{IsLegalSoFar};
 ghost use Rattle.dr_history.specs.Protection.{started, writable, cached};
 ghost use Rattle.dr_history.specs.Dirty.{dirty};
-ghost use Rattle.dr_state.specs.Pages.{IsProtection, IsUnshielded, IsUntouched, SameSizes, IsPageWithin, FillFits, ClosingFits, page_reset};
+ghost use Rattle.dr_state.specs.Pages.{IsProtection, IsNoProtection, IsUntouched, SameSizes};
+ghost use Rattle.dr_state.specs.Pages.{IsPageWithin, FillFits, ClosingFits, page_reset};
 ghost use Rattle.dr_state.specs.Rows.{IsWithin};
 
-use crate::shield::Protection;
+use crate::protection_fields::Protection;
 use dr_bitmap::Bitmap;
-use dr_flags::Marks;
 use dr_history::Event;
+use dr_marks::Marks;
 use dr_protect::Protect;
 use dr_slots::pages_in;
 use dr_types::{Memory, SlotList};
@@ -73,7 +75,7 @@ impl Protection {
         requires fill { FillFits e.now self.old.permissions }
         requires room { ClosingFits e.now self.old.closing.1 }
         ensures sizes { SameSizes self.old self.new }
-        ensures replay { (guest : Guest) (past : List Event) → IsLegalSoFar guest (e.now ∷ past)
+        ensures state { (guest : Guest) (past : List Event) → IsLegalSoFar guest (e.now ∷ past)
             → reset ≡ page_reset e.now past
             → IsProtection past self.old → IsProtection (e.now ∷ past) self.new }
     {
@@ -93,9 +95,10 @@ impl Protection {
 
     fn started(&mut self)
         ensures sizes { SameSizes self.old self.new }
-        ensures replay { (past : List Event) (at : ℕ) → IsUntouched past
+        ensures state { (past : List Event) (at : ℕ) → IsUntouched past
             → IsProtection past self.old → IsProtection (Event.Start at ∷ past) self.new }
     {
+        // Each page is dirty at first, as in QEMU's bitmap: nobody knows what the destination has.
         self.permissions.start();
         self.dirty.set_all();
     }
@@ -104,7 +107,7 @@ impl Protection {
         requires vcpu { v < self.old.permissions.vcpus }
         requires page { page < self.old.permissions.pages }
         ensures sizes { SameSizes self.old self.new }
-        ensures replay { (past : List Event) (k : ℕ) → IsProtection past self.old
+        ensures state { (past : List Event) (k : ℕ) → IsProtection past self.old
             → IsProtection (Event.Opened v k page ∷ past) self.new }
     {
         self.permissions.open_page(v, page);
@@ -115,7 +118,7 @@ impl Protection {
         requires page { page < self.old.permissions.pages }
         requires writable { is_writable page self.old.permissions ≡ true }
         ensures sizes { SameSizes self.old self.new }
-        ensures replay { (past : List Event) → IsProtection past self.old
+        ensures state { (past : List Event) → IsProtection past self.old
             → IsProtection (Event.Filled v page ∷ past) self.new }
     {
         self.permissions.fill(v, page);
@@ -125,10 +128,12 @@ impl Protection {
         requires page { page < self.old.permissions.pages }
         requires room { 1 ≤ self.old.closing.1 }
         ensures sizes { SameSizes self.old self.new }
-        ensures replay { (past : List Event) (v k : ℕ)
+        ensures state { (past : List Event) (v k : ℕ)
             → started past ≡ true → page_reset (Event.Reset v k) past ≡ Some page
             → IsProtection past self.old → IsProtection (Event.Reset v k ∷ past) self.new }
     {
+        // Protected, but not yet dirty: cached permissions outlive the protection, and a copy that
+        // is made now could miss a write by one of them.
         self.permissions.protect_page(page);
         self.closing.mark(page);
     }
@@ -136,7 +141,7 @@ impl Protection {
     fn copied(&mut self, page: u32)
         requires { page < self.old.permissions.pages }
         ensures sizes { SameSizes self.old self.new }
-        ensures replay { (past : List Event) (r : ℕ) → IsProtection past self.old
+        ensures state { (past : List Event) (r : ℕ) → IsProtection past self.old
             → IsProtection (Event.Copied r page ∷ past) self.new }
     {
         let _was_dirty = self.dirty.take(page);
@@ -144,15 +149,17 @@ impl Protection {
 
     fn unseen(&mut self)
         ensures sizes { SameSizes self.old self.new }
-        ensures replay { (past : List Event) (e : Event) → IsUnshielded past e
+        ensures state { (past : List Event) (e : Event) → IsNoProtection past e
             → IsProtection past self.old → IsProtection (e ∷ past) self.new }
     {}
 
     fn flushed(&mut self)
         ensures sizes { SameSizes self.old self.new }
-        ensures replay { (past : List Event) → IsProtection past self.old
+        ensures state { (past : List Event) → IsProtection past self.old
             → IsProtection (Event.Flushed ∷ past) self.new }
     {
+        // Dirty here and not at the reset: from the flush on each write into the page opens an
+        // entry, so what was written before it is what a copy after it has.
         set_each(&mut self.dirty, self.closing.list());
         self.closing.clear();
         self.permissions.flush();

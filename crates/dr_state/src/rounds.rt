@@ -4,7 +4,7 @@ ghost use Rattle.dr_history.specs.declared.event.Event.{Event};
 ghost use Rattle.dr_history.specs.Rounds.{answered_pages};
 ghost use Rattle.dr_state.specs.Rounds.{rounds_of};
 
-use crate::round_state::{Answer, Rounds};
+use crate::round_fields::{Answer, Rounds};
 use dr_history::Event;
 use dr_types::PageList;
 

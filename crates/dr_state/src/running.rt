@@ -1,4 +1,5 @@
-ghost use Rattle.std.specs.Prelude.{◌≡◌, ◌<◌, [], ◌∷◌, ℕ, List, All, IfOk, length, slice_index, vec_len, Option};
+ghost use Rattle.std.specs.Prelude.{◌≡◌, ◌<◌, [], ◌∷◌, ℕ, List, All, IfOk, length, slice_index};
+ghost use Rattle.std.specs.Prelude.{vec_len, Option};
 ghost use Rattle.dr_types.specs.declared.guest.Guest.{Guest};
 ghost use Rattle.dr_types.specs.Scripts.{operation, next_acc};
 ghost use Rattle.dr_history.specs.declared.event.Event.{Event};
@@ -7,7 +8,7 @@ ghost use Rattle.dr_state.specs.Scripts.{IsRunning, IsOpLoading, IsNoOp};
 ghost use Rattle.dr_state.specs.Rows.{IsWithin};
 ghost use Rattle.dr_script.specs.Places.{AllRun};
 
-use crate::scripts::Running;
+use crate::script_fields::Running;
 use dr_history::Event;
 use dr_script::{Reader, next_acc as acc_after};
 use dr_types::{Guest, Memory, Op};
@@ -61,7 +62,7 @@ impl Running {
     pub fn take(&mut self, e: &Event)
         requires { IsWithin (vec_len self.old.readers) e.now }
         ensures len { vec_len self.new.readers ≡ vec_len self.old.readers }
-        ensures replay { (guest : Guest) (past : List Event) → IsRunning guest past self.old
+        ensures state { (guest : Guest) (past : List Event) → IsRunning guest past self.old
             → IsRunning guest (e.now ∷ past) self.new }
     {
         match e {
@@ -77,7 +78,7 @@ impl Running {
     fn executed(&mut self, v: u32, loaded: u64)
         requires { v < vec_len self.old.readers }
         ensures len { vec_len self.new.readers ≡ vec_len self.old.readers }
-        ensures replay { (guest : Guest) (past : List Event) (e : Event) → IsOpLoading v loaded e
+        ensures state { (guest : Guest) (past : List Event) (e : Event) → IsOpLoading v loaded e
             → IsRunning guest past self.old → IsRunning guest (e ∷ past) self.new }
     {
         let at = v as usize;
@@ -90,7 +91,7 @@ impl Running {
 
     fn unseen(&mut self)
         ensures len { vec_len self.new.readers ≡ vec_len self.old.readers }
-        ensures replay { (guest : Guest) (past : List Event) (e : Event) → IsNoOp e
+        ensures state { (guest : Guest) (past : List Event) (e : Event) → IsNoOp e
             → IsRunning guest past self.old → IsRunning guest (e ∷ past) self.new }
     {}
 }

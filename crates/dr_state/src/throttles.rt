@@ -1,12 +1,14 @@
-ghost use Rattle.std.specs.Prelude.{◌≡◌, ◌+◌, ◌≤◌, ◌<◌, [], ◌∷◌, IfOk, ℕ, List, All, length, vec_len};
+ghost use Rattle.std.specs.Prelude.{◌≡◌, ◌+◌, ◌≤◌, ◌<◌, [], ◌∷◌, IfOk, ℕ, List, All, length};
+ghost use Rattle.std.specs.Prelude.{vec_len};
 ghost use Rattle.dr_types.specs.Scripts.{vcpu_count};
 ghost use Rattle.dr_types.specs.declared.guest.Guest.{Guest};
 ghost use Rattle.dr_history.specs.declared.event.Event.{Event};
 ghost use Rattle.dr_history.specs.Throttles.{one_after, throttle};
 ghost use Rattle.dr_state.specs.Rows.{rows_of};
-ghost use Rattle.dr_state.specs.Spans.{AreThrottles, IsUnheld, SpanFits, FitsEntries, FitsSleep, held_after, each_with};
+ghost use Rattle.dr_state.specs.Spans.{AreThrottles, IsUnheld, SpanFits, FitsEntries, FitsSleep};
+ghost use Rattle.dr_state.specs.Spans.{held_after, each_with};
 
-use crate::held::Throttles;
+use crate::throttle_fields::Throttles;
 use crate::vcpus::{Vcpu, Vcpus};
 use dr_history::Event;
 use dr_limit::next;

@@ -1,6 +1,8 @@
-ghost use Rattle.std.specs.Prelude.{◌≡◌, ◌<◌, ◌^◌, [], ◌∷◌, ℕ, List, IfOk, All, length, get_or, map};
+ghost use Rattle.std.specs.Prelude.{◌≡◌, ◌<◌, ◌^◌, [], ◌∷◌, ℕ, List, IfOk, All, length, get_or};
+ghost use Rattle.std.specs.Prelude.{map};
 ghost use Rattle.dr_history.specs.declared.event.Event.{Event};
-ghost use Rattle.dr_state.specs.Rows.{rows_of, row_of, HasRoom, IsWithin, IsOperation, IsUnseen, begins, asked_row, spanned_row};
+ghost use Rattle.dr_state.specs.Rows.{rows_of, row_of, HasRoom, IsWithin, IsOperation, IsUnseen};
+ghost use Rattle.dr_state.specs.Rows.{begins, asked_row, spanned_row};
 ghost use Rattle.dr_types.specs.declared.guest.Why.{Why};
 
 use dr_history::Event;
@@ -9,8 +11,8 @@ use std::alloc::Global;
 use std::marker::Model;
 
 /// What is kept of one vCPU. `recent` counts its operations since the last Asked, `asked_opens` the
-/// entries that it had opened there, and `span_pushes` the entries that it pushed since the last Start
-/// or Synced.
+/// entries that it had opened there, and `span_pushes` the entries that it pushed since the last
+/// Start or Synced.
 #[derive(Clone, Copy, Debug)]
 pub struct Vcpu {
     pub ops: u64,

@@ -6,8 +6,8 @@ use Rattle.dr_types.specs.Validity.{IsValid}
 use Rattle.dr_history.specs.declared.event.Event.{Event}
 use Rattle.dr_history.specs.Execution.{ops}
 use Rattle.dr_history.specs.Rules.{may_end}
-use Rattle.dr_law.specs.Room.{unpushed}
-use Rattle.dr_may.specs.May.{MayRun}
+use Rattle.dr_history_law.specs.Room.{unpushed}
+use Rattle.dr_event_law.specs.May.{MayRun}
 
 -- no write and no throttle is owed, and no buffer is full
 pub record AtTurnsEnd (guest : Guest) (past : List Event) : Type 0 where

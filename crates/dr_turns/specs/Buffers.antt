@@ -4,7 +4,7 @@ use Rattle.dr_types.specs.declared.guest.Guest.{Guest}
 use Rattle.dr_history.specs.declared.event.Event.{Event}
 use Rattle.dr_history.specs.declared.event.Event.TheVariants.{Pushed}
 use Rattle.dr_history.specs.Entries.{pushes}
-use Rattle.dr_law.specs.Room.{unpushed}
+use Rattle.dr_history_law.specs.Room.{unpushed}
 
 -- behind these events so many Pushed of the vCPU, each of its next entry
 abbrev pub pushed_behind : ℕ → ℕ → List Event → List Event

@@ -1,11 +1,14 @@
--- What step of the migrator is due, by the first of a list that applies, and the events after it.
-use Rattle.std.specs.Prelude.{ℕ, zero, suc, Bool, not, ◌+◌, ◌==◌, ◌&&◌, nat_le, nat_lt, if◌then◌else◌, List, ◌∷◌, length, slice_get, Option, Some, None, is_some}
+-- What advance is due, by the first of a list that applies, and the events after it.
+use Rattle.std.specs.Prelude.{ℕ, zero, suc, Bool, not, ◌+◌, ◌==◌, ◌&&◌, nat_le, nat_lt}
+use Rattle.std.specs.Prelude.{if◌then◌else◌, List, ◌∷◌, length, slice_get, Option, Some, None}
+use Rattle.std.specs.Prelude.{is_some}
 use Rattle.std.specs.List.{list_any}
 use Rattle.dr_types.specs.declared.guest.Guest.{Guest}
 use Rattle.dr_types.specs.Pages.{page_count}
 use Rattle.dr_types.specs.Scripts.{vcpu_count}
 use Rattle.dr_history.specs.declared.event.Event.{Event}
-use Rattle.dr_history.specs.declared.event.Event.TheVariants.{Start, Asked, Synced, Copied, Throttled, Stopped, Switched}
+use Rattle.dr_history.specs.declared.event.Event.TheVariants.{Start, Asked, Synced, Copied}
+use Rattle.dr_history.specs.declared.event.Event.TheVariants.{Throttled, Stopped, Switched}
 use Rattle.dr_history.specs.Lookback.{count, since, below}
 use Rattle.dr_history.specs.Kinds.{is_op_of, is_asked, is_stopped, is_switched}
 use Rattle.dr_history.specs.Protection.{started, closing}
@@ -14,8 +17,9 @@ use Rattle.dr_history.specs.Entries.{resets}
 use Rattle.dr_history.specs.Execution.{ops}
 use Rattle.dr_history.specs.Throttles.{throttle}
 use Rattle.dr_history.specs.Vcpus.{stopped}
-use Rattle.dr_history.specs.Rounds.{asks, unanswered, last_synced, answered_round, answered_pages, opens_round, few_answered}
-use Rattle.dr_law.specs.Copies.{copies}
+use Rattle.dr_history.specs.Rounds.{asks, unanswered, last_synced, answered_round, answered_pages}
+use Rattle.dr_history.specs.Rounds.{opens_round, few_answered}
+use Rattle.dr_history_law.specs.Copies.{copies}
 use Rattle.dr_turns.specs.Firsts.{first_unpaced, first_kicked, first_unreset}
 use Rattle.dr_turns.specs.declared.answers.Advance.{Advance}
 use Rattle.dr_turns.specs.declared.answers.Advance.TheVariants as advance
@@ -42,7 +46,8 @@ throttled_behind guest (suc n) past =
 abbrev pub answered_behind : Guest → ℕ → ℕ → List Event → List Event
 answered_behind guest r now past =
     let answer = Synced r now (dirty_pages guest past) ∷ past in
-    if nat_le 1 guest.settings.quota && not (stopped past) then throttled_behind guest (vcpu_count guest) answer else answer
+    if nat_le 1 guest.settings.quota && not (stopped past)
+    then throttled_behind guest (vcpu_count guest) answer else answer
 
 -- 2. The round that was asked is answered, where all are out, all is reset and nothing is closing.
 abbrev pub flushed_answer : Guest → ℕ → ℕ → List Event → Advance × List Event
@@ -59,13 +64,14 @@ answered guest now r past None = reset_answer guest now r past (first_unreset gu
 answered guest now r past (Some v) = (advance.NotOut v, past)
 
 -- 3. The next page of an open round is copied.
-abbrev pub left_of : Guest → List Event → Option (Event × List Event) → Option ℕ
-left_of guest past None = None
-left_of guest past (Some synced) =
-    if opens_round guest synced.0 synced.1 then slice_get (answered_pages synced.0) (copies past) else None
+abbrev pub page_to_copy_of : Guest → List Event → Option (Event × List Event) → Option ℕ
+page_to_copy_of guest past None = None
+page_to_copy_of guest past (Some synced) =
+    if opens_round guest synced.0 synced.1 then slice_get (answered_pages synced.0) (copies past)
+    else None
 
-abbrev pub left : Guest → List Event → Option ℕ
-left guest past = left_of guest past (last_synced past)
+abbrev pub page_to_copy : Guest → List Event → Option ℕ
+page_to_copy guest past = page_to_copy_of guest past (last_synced past)
 
 abbrev pub round_of : Option (Event × List Event) → ℕ
 round_of None = 0
@@ -78,7 +84,8 @@ asked past = (advance.Asked (asks past + 1), Asked (asks past + 1) ∷ past)
 -- 7. The next round is asked, where each vCPU is paced since the last one.
 abbrev pub asked_where_paced : List Event → Option ℕ → Advance × List Event
 asked_where_paced past None = asked past
-asked_where_paced past (Some v) = (advance.NotPaced v (count (is_op_of v) (since is_asked past)), past)
+asked_where_paced past (Some v) =
+    (advance.NotPaced v (count (is_op_of v) (since is_asked past)), past)
 
 abbrev pub next_round : Guest → List Event → Advance × List Event
 next_round guest past =
@@ -88,7 +95,8 @@ next_round guest past =
 -- 5. After the stop the last round is asked, and then the guest switches over.
 abbrev pub after_stop : List Event → Advance × List Event
 after_stop past =
-    if list_any is_asked (since is_stopped past) then (advance.Switched, Switched ∷ past) else asked past
+    if list_any is_asked (since is_stopped past) then (advance.Switched, Switched ∷ past)
+    else asked past
 
 -- 4 to 8, where nothing is left to copy
 abbrev pub after_copies : Guest → List Event → Advance × List Event
@@ -105,10 +113,10 @@ copied guest past (Some page) =
     let r = round_of (last_synced past) in (advance.Copied r page, Copied r page ∷ past)
 
 abbrev pub answered_or_copied : Guest → ℕ → List Event → Option ℕ → Advance × List Event
-answered_or_copied guest now past None = copied guest past (left guest past)
+answered_or_copied guest now past None = copied guest past (page_to_copy guest past)
 answered_or_copied guest now past (Some r) = answered guest now r past (first_kicked guest past)
 
--- the migrator's step that is due: what it answers, and the events after it
+-- the advance that is due: what it answers, and the events after it
 unfoldable pub advanced : Guest → ℕ → List Event → Advance × List Event
 advanced guest now past =
     if started past then answered_or_copied guest now past (unanswered past)
@@ -117,11 +125,13 @@ advanced guest now past =
 -- all rounds were asked, answered and copied, and the last left too many pages
 unfoldable pub is_spent : Guest → List Event → Bool
 is_spent guest past =
-    started past && not (is_some (unanswered past)) && not (is_some (left guest past))
-    && not (list_any is_switched past) && not (stopped past) && not (few_answered guest (last_synced past))
+    started past && not (is_some (unanswered past)) && not (is_some (page_to_copy guest past))
+    && not (list_any is_switched past) && not (stopped past)
+    && not (few_answered guest (last_synced past))
     && nat_le guest.settings.rounds (asks past)
 
 -- where the run stands
 abbrev pub run_end : Guest → List Event → RunEnd
 run_end guest past =
-    if list_any is_switched past then end.Switched else if is_spent guest past then end.Budget else end.Open
+    if list_any is_switched past then end.Switched else if is_spent guest past then end.Budget
+    else end.Open

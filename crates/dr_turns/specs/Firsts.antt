@@ -1,5 +1,6 @@
 -- The least vCPU of which something holds.
-use Rattle.std.specs.Prelude.{ℕ, zero, suc, Bool, not, nat_lt, if◌then◌else◌, List, Option, Some, None}
+use Rattle.std.specs.Prelude.{ℕ, zero, suc, Bool, not, nat_lt, if◌then◌else◌, List, Option, Some}
+use Rattle.std.specs.Prelude.{None}
 use Rattle.dr_types.specs.declared.guest.Guest.{Guest}
 use Rattle.dr_types.specs.Scripts.{vcpu_count}
 use Rattle.dr_history.specs.declared.event.Event.{Event}
@@ -15,7 +16,8 @@ first_below passes (suc n) = or_else (first_below passes n) (if passes n then So
 
 -- the least vCPU that has not executed enough in these events and has not halted
 unfoldable pub first_unpaced : Guest → List Event → List Event → Option ℕ
-first_unpaced guest recent past = first_below (λ v. not (paced guest v recent past)) (vcpu_count guest)
+first_unpaced guest recent past =
+    first_below (λ v. not (paced guest v recent past)) (vcpu_count guest)
 
 -- the least vCPU that is kicked
 unfoldable pub first_kicked : Guest → List Event → Option ℕ

@@ -17,7 +17,7 @@ use Rattle.dr_history.specs.Entries.{opens, used}
 use Rattle.dr_history.specs.Execution.{ops}
 use Rattle.dr_history.specs.Protection.{started, writable, cached}
 use Rattle.dr_history.specs.Vcpus.{halted, stopped, kicked, is_full}
-use Rattle.dr_may.specs.Operations.{op_event, op_page}
+use Rattle.dr_event_law.specs.Operations.{op_event, op_page}
 use Rattle.dr_turns.specs.Buffers.{all_pushed, pushed_where_full}
 use Rattle.dr_turns.specs.declared.answers.Turn.{Turn}
 use Rattle.dr_turns.specs.declared.answers.Turn.TheVariants as turn
@@ -38,8 +38,8 @@ op_step (Some (op.Nap us)) = step.Nap us
 op_step (Some op.Halt) = step.Halted
 op_step o = step.Plain
 
--- An op's event, behind what the page needs that it writes: nothing before Start or where the page is cached for
--- the vCPU; a Filled where it is writable; else an Opened of the vCPU's next number.
+-- An op's event, behind what the page needs that it writes: nothing before Start or where the page
+-- is cached for the vCPU; a Filled where it is writable; else an Opened of the vCPU's next number.
 abbrev pub event_behind : ℕ → Event → Option ℕ → List Event → List Event
 event_behind v e None past = e ∷ past
 event_behind v e (Some page) past =
@@ -55,7 +55,8 @@ op_behind guest v (Some o) past = event_behind v (op_event guest v past o) (op_p
 unfoldable pub executed : Guest → ℕ → List Event → List Event
 executed guest v past = op_behind guest v (operation guest v (ops v past)) past
 
--- the events after the turn of a vCPU that executes: its next op, and then its buffer where it is full
+-- the events after the turn of a vCPU that executes: its next op, and then its buffer where it is
+-- full
 abbrev pub after_op : Guest → ℕ → List Event → List Event
 after_op guest v past = pushed_where_full guest v (executed guest v past)
 

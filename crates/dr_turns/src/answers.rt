@@ -17,7 +17,7 @@ pub enum Turn {
     Done(Step),
 }
 
-/// What came of a step of the migrator.
+/// What came of an advance.
 #[derive(Clone, Copy, Debug, PartialEq, Eq)]
 pub enum Advance {
     /// A vCPU has executed too few ops, so many since the start or since the last round was asked.

@@ -1,12 +1,7 @@
-//! What the turns of a machine answer and append, by the events so far; and that what they append
-//! breaks no rule.
+//! The turns of a machine as types and definitions: what each answers, and what it appends to the
+//! events so far. That what they append breaks no rule is shown in `dr_turns_law`.
 #![tactic(auto)]
 
 mod answers;
-mod laws;
 
 pub use answers::{Advance, RunEnd, Turn};
-pub use laws::{
-    budget_is_spent, exit_leaves_turns_end, op_leaves_turns_end, push_finds_place,
-    push_leaves_turns_end, search_finds_least, start_leaves_turns_end,
-};

@@ -13,7 +13,8 @@ use Rattle.dr_types.specs.Lines.{named, lines_text, low_bytes}
 
 abbrev pub settings_lines : Settings → List (List (List ℕ))
 settings_lines s =
-    named (codes "ring") s.ring ∷ named (codes "reserve") s.reserve ∷ named (codes "buffer") s.buffer
+    named (codes "ring") s.ring ∷ named (codes "reserve") s.reserve
+    ∷ named (codes "buffer") s.buffer
     ∷ named (codes "pace") s.pace ∷ named (codes "threshold") s.threshold
     ∷ named (codes "rounds") s.rounds
     ∷ named (codes "quota") s.quota ∷ []
@@ -22,7 +23,8 @@ abbrev pub slot_line : SlotRow → List (List ℕ)
 slot_line row = codes "slot" ∷ decimal row.id ∷ decimal row.base ∷ decimal row.pages ∷ []
 
 abbrev pub op_line : Op → List (List ℕ)
-op_line (W address len value) = codes "w" ∷ decimal address ∷ encode_lower (low_bytes len value) ∷ []
+op_line (W address len value) =
+    codes "w" ∷ decimal address ∷ encode_lower (low_bytes len value) ∷ []
 op_line (F frame byte) = codes "f" ∷ decimal frame ∷ encode_lower (byte ∷ []) ∷ []
 op_line (R address) = named (codes "r") address
 op_line (A n) = named (codes "a") n
@@ -32,7 +34,8 @@ op_line Halt = codes "halt" ∷ []
 
 abbrev pub item_lines : Item → List (List (List ℕ))
 item_lines (One op) = op_line op ∷ []
-item_lines (Rep times body) = named (codes "rep") times ∷ map op_line body ++ (codes "end" ∷ []) ∷ []
+item_lines (Rep times body) =
+    named (codes "rep") times ∷ map op_line body ++ (codes "end" ∷ []) ∷ []
 
 abbrev pub script_lines : List Item → List (List (List ℕ))
 script_lines items = (codes "vcpu" ∷ []) ∷ flat_map item_lines items

@@ -1,5 +1,6 @@
 -- The four ports of an outlet, and what puts do to them.
-use Rattle.std.specs.Prelude.{◌≡◌, ℕ, ◌+◌, ◌^◌, ◌-◌, ◌≤◌, min, List, [], ◌∷◌, ◌++◌, take, Option, Some, None, ◌⊎◌}
+use Rattle.std.specs.Prelude.{◌≡◌, ℕ, ◌+◌, ◌^◌, ◌-◌, ◌≤◌, min, List, [], ◌∷◌, ◌++◌, take, Option}
+use Rattle.std.specs.Prelude.{Some, None, ◌⊎◌}
 use Rattle.dr_types.specs.declared.port.Port.{Port}
 use Rattle.dr_types.specs.declared.port.Port.TheVariants.{Report, Stream, Image, Journal}
 

@@ -8,7 +8,8 @@ pub struct Entry {
     pub offset: u64,
 }
 
-/// The entry word, with the flags in its low half and the slot in its high half, and the offset word.
+/// The entry word, with the flags in its low half and the slot in its high half, and the offset
+/// word.
 pub fn entry_words(e: Entry, flags: u32) -> (u64, u64)
     requires { flags ≤ 3 }
     ensures { result ≡ (first_word e flags, e.offset) }

@@ -11,8 +11,8 @@ pub struct SlotRow {
     pub pages: u32,
 }
 
-/// The numbers that a guest is run with: `ring`, `reserve` and `buffer` in ring entries, `pace` in ops,
-/// `threshold` in pages, `quota` in KiB a second, where 0 is no limit.
+/// The numbers that a guest is run with: `ring`, `reserve` and `buffer` in ring entries, `pace` in
+/// ops, `threshold` in pages, `quota` in KiB a second, where 0 is no limit.
 #[derive(Clone, Copy, Debug, PartialEq, Eq)]
 pub struct Settings {
     pub ring: u32,
@@ -24,7 +24,8 @@ pub struct Settings {
     pub quota: u64,
 }
 
-/// One op of a vCPU's script. Addresses are guest-physical, in bytes; `gfn` is a guest frame number.
+/// One op of a vCPU's script. Addresses are guest-physical, in bytes; `gfn` is a guest frame
+/// number.
 #[derive(Clone, Copy, Debug, PartialEq, Eq)]
 pub enum Op {
     /// Stores the low `len` bytes of the value, the least first.
@@ -49,7 +50,9 @@ pub type OpList = Listed<Op>;
 /// An op of a script, or a part that is repeated `n` times.
 #[derive(Debug, Drop, PartialEq)]
 pub enum Item {
+    /// An op.
     One(Op),
+    /// Ops that are executed `n` times, one turn after the other.
     Rep { n: u32, body: OpList },
 }
 
@@ -73,10 +76,15 @@ pub struct Guest {
 /// Why a vCPU left the guest.
 #[derive(Clone, Copy, Debug, PartialEq, Eq)]
 pub enum Why {
+    /// Its script has ended.
     Halted,
+    /// The guest was stopped.
     Stopped,
+    /// A round was asked while it was in the guest.
     Kicked,
+    /// Its ring is soft full.
     Full,
+    /// For none of these.
     Yield,
 }
 

@@ -1,5 +1,5 @@
 use Rattle.std.proofs.Common.{◌≡◌, ℕ, ◌+◌, ◌≤◌, length}
-use Rattle.dr_rings.specs.Seated.{IfAt}
+use Rattle.dr_ring_set.specs.Seated.{IfAt}
 use Rattle.dr_collector.proofs.tests.push_some.Given as goal
 
 abbrev pub invariant-loop-k : goal.invariant-loop-k

@@ -7,7 +7,7 @@ use Rattle.dr_log_turns.proofs.answering.answer_flushed.Goals as goal
 pub overflow_cast-count : goal.overflow_cast-count
 overflow_cast-count c =
     let few : length c.in_ok-pages.pages ≤ page_count c.args.log.now.guest = c.in_ok-pages.ensures.few in
-    let pages : page_count c.args.log.now.guest < 2 ^ 32 = subst (λ (h : Guest). page_count h < 2 ^ 32) c.guest-few.ensures.is c.guest-few.ensures.few in
+    let pages : page_count c.args.log.now.guest < 2 ^ 32 = subst (λ (h : Guest). page_count h < 2 ^ 32) c.guest-recall_few.ensures.is c.guest-recall_few.ensures.few in
     rw c.len-count.ensures (omega arith)
 
 pub take_answer-requires-clause-copy : goal.take_answer-requires-clause-copy

@@ -1,9 +1,9 @@
 use Rattle.std.proofs.Common.{◌≡◌, ◌∙◌, Some, sym, subst}
 use Rattle.dr_types.specs.declared.guest.Guest.{Guest}
 use Rattle.dr_history.specs.declared.event.Event.{Event}
-use Rattle.dr_may.specs.May.{WritesNext}
-use Rattle.dr_may.specs.Operations.{op_page}
-use Rattle.dr_turns.proofs.Executing.{event_writes}
+use Rattle.dr_event_law.specs.May.{WritesNext}
+use Rattle.dr_event_law.specs.Operations.{op_page}
+use Rattle.dr_turns_law.proofs.Executing.{event_writes}
 use Rattle.dr_log_turns.proofs.Rooms.{op_in_range}
 use Rattle.dr_log_turns.proofs.writes.execute.Goals as goal
 

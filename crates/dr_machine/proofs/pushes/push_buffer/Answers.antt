@@ -2,9 +2,9 @@ use Rattle.std.proofs.Common.{◌≡◌, ◌<◌, ◌+◌, arith, subst, sym, ru
 use Rattle.dr_types.specs.Validity.{IsValid}
 use Rattle.dr_history.specs.Entries.{opens, pushes}
 use Rattle.dr_history.specs.Legality.{IsLegalSoFar}
-use Rattle.dr_law.specs.Room.{unpushed}
+use Rattle.dr_history_law.specs.Room.{unpushed}
 use Rattle.dr_turns.specs.Buffers.{pushed_behind}
-use Rattle.dr_turns.proofs.Buffers.{own_pushes, opens_pushed, finds_place}
+use Rattle.dr_turns_law.proofs.Buffers.{own_pushes, opens_pushed, finds_place}
 use Rattle.dr_machine.proofs.Pushing.{next_may_follow}
 use Rattle.dr_machine.proofs.pushes.push_buffer.Goals as goal
 
@@ -25,8 +25,8 @@ push_next-requires-clause-place g c κs within =
     let past = c.args.log.now.past in
     let guest = g.N.Name.guest in
     let more : n < unpushed v past = search (rules, c.loop-n-test.true, c.saturating_sub-unpushed.ensures, c.opens.ensures, c.pushes.ensures) in
-    let valid : IsValid guest = subst IsValid c.loop-n.invariant.tied.guest_is c.is_legal.ensures.valid in
-    let legal : IsLegalSoFar guest (pushed_behind v n past) = rw (sym c.loop-n.invariant.past, sym c.loop-n.invariant.tied.guest_is) c.is_legal.ensures.legal in
+    let valid : IsValid guest = subst IsValid c.loop-n.invariant.tied.guest_is c.recall_legal.ensures.valid in
+    let legal : IsLegalSoFar guest (pushed_behind v n past) = rw (sym c.loop-n.invariant.past, sym c.loop-n.invariant.tied.guest_is) c.recall_legal.ensures.legal in
     rw c.loop-n.invariant.past (finds_place guest past v n valid legal more)
 
 pub push_next-requires-clause-follows : goal.push_next-requires-clause-follows
@@ -36,6 +36,6 @@ push_next-requires-clause-follows g c κs within =
     let past = c.args.log.now.past in
     let guest = g.N.Name.guest in
     let more : n < unpushed v past = search (rules, c.loop-n-test.true, c.saturating_sub-unpushed.ensures, c.opens.ensures, c.pushes.ensures) in
-    let valid : IsValid guest = subst IsValid c.loop-n.invariant.tied.guest_is c.is_legal.ensures.valid in
-    let legal : IsLegalSoFar guest (pushed_behind v n past) = rw (sym c.loop-n.invariant.past, sym c.loop-n.invariant.tied.guest_is) c.is_legal.ensures.legal in
+    let valid : IsValid guest = subst IsValid c.loop-n.invariant.tied.guest_is c.recall_legal.ensures.valid in
+    let legal : IsLegalSoFar guest (pushed_behind v n past) = rw (sym c.loop-n.invariant.past, sym c.loop-n.invariant.tied.guest_is) c.recall_legal.ensures.legal in
     rw c.loop-n.invariant.past (next_may_follow guest past v n c.requires.vcpu valid c.requires.rest legal more)

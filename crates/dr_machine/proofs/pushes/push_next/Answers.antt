@@ -3,11 +3,11 @@ use Rattle.dr_machine.proofs.pushes.push_next.Goals as goal
 
 pub push-requires-clause-room : goal.push-requires-clause-room
 push-requires-clause-room g c κs within =
-    seat_has_place g.N.Name.guest g.N.Name.rings c.args.slots.now c.args.log.now c.args.seats.now c.args.v c.args.rings.now.size c.requires.tied c.is_legal.ensures.legal c.are_sized.ensures c.requires.vcpu c.requires.place
+    seat_has_place g.N.Name.guest g.N.Name.rings c.args.slots.now c.args.log.now c.args.seats.now c.args.v c.args.rings.now.size c.requires.tied c.recall_legal.ensures.legal c.recall_sizes.ensures c.requires.vcpu c.requires.place
 
 pub push-requires-clause-count : goal.push-requires-clause-count
 push-requires-clause-count g c κs within =
-    seat_has_count g.N.Name.guest g.N.Name.rings c.args.slots.now c.args.log.now c.args.seats.now c.args.v c.requires.tied c.is_legal.ensures.legal c.is_legal.ensures.valid
+    seat_has_count g.N.Name.guest g.N.Name.rings c.args.slots.now c.args.log.now c.args.seats.now c.args.v c.requires.tied c.recall_legal.ensures.legal c.recall_legal.ensures.valid
 
 pub returns-clause-tied : goal.returns-clause-tied
 returns-clause-tied g c =

@@ -4,14 +4,14 @@ use Rattle.dr_machine_law.proofs.exits.exit.Goals as goal
 pub returns : goal.returns
 returns g c =
     let exit : ExitOf g.N.Name.guest c.args.v c.args.machine.now c.exit-why.new.self c.exit-why.result = record {
-      after = c.keeps.ensures.legal;
-      seats = c.keeps.ensures.seats;
+      after = c.recall_kept.ensures.legal;
+      seats = c.recall_kept.ensures.seats;
       stays = c.exit-why.ensures.stays;
       appended = c.exit-why.ensures.appended;
       err = c.exit-why.ensures.err;
     } in record {
       outside = exit.stays;
-      left = exit_left exit;
+      leaves = exit_left exit;
       unkicked = exit_unkicked exit;
       pushed = exit_pushed exit;
       seat = exit_seat exit;

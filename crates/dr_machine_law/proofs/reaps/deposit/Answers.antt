@@ -2,7 +2,7 @@ use Rattle.std.proofs.Common.{◌<◌, ◌+◌, subst, length, arith, ℕ, List}
 use Rattle.std.proofs.lemmas.Result.{on_ok_weaker}
 use Rattle.dr_history.specs.declared.event.Event.{Event}
 use Rattle.dr_history.specs.Legality.{IsLegalSoFar}
-use Rattle.dr_seats.specs.Seats.{AreSeats}
+use Rattle.dr_seat_law.specs.Seats.{AreSeats}
 use Rattle.dr_machine_law.proofs.Reaping.{batch_is_pushed, batch_is_known}
 use Rattle.dr_machine_law.proofs.reaps.deposit.Goals as goal
 
@@ -15,7 +15,7 @@ returns-clause-pushed g c =
     let old = c.args.machine.now.past in
     let to = b.first + length b.entries in
     on_ok_weaker c.deposit-answer.result
-    (λ is. rw is (batch_is_pushed g.N.Name.guest old b.vcpu b.first to (more b.first (length b.entries) c.requires) (subst (λ (xs : List Event). IsLegalSoFar g.N.Name.guest xs) is c.keeps.ensures.legal.0)))
+    (λ is. rw is (batch_is_pushed g.N.Name.guest old b.vcpu b.first to (more b.first (length b.entries) c.requires) (subst (λ (xs : List Event). IsLegalSoFar g.N.Name.guest xs) is c.recall_kept.ensures.legal.0)))
     c.deposit-answer.ensures.appended
 
 pub returns-clause-known : goal.returns-clause-known
@@ -24,5 +24,5 @@ returns-clause-known g c =
     let old = c.args.machine.now.past in
     let to = b.first + length b.entries in
     on_ok_weaker c.deposit-answer.result
-    (λ is. batch_is_known g.N.Name.guest old c.deposit-answer.new.self.seats b.vcpu b.first to (more b.first (length b.entries) c.requires) (subst (λ (xs : List Event). AreSeats g.N.Name.guest xs c.deposit-answer.new.self.seats) is c.keeps.ensures.seats))
+    (λ is. batch_is_known g.N.Name.guest old c.deposit-answer.new.self.seats b.vcpu b.first to (more b.first (length b.entries) c.requires) (subst (λ (xs : List Event). AreSeats g.N.Name.guest xs c.deposit-answer.new.self.seats) is c.recall_kept.ensures.seats))
     c.deposit-answer.ensures.appended

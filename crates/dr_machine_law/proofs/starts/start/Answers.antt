@@ -5,7 +5,7 @@ pub returns : goal.returns
 returns g c =
     let start : StartOf g.N.Name.guest c.args.now c.args.machine.now c.advance.new.self c.advance.result = record {
       fresh = c.requires;
-      before = c.keeps.ensures.legal;
+      before = c.recall_kept.ensures.legal;
       answer = c.advance.ensures.answer;
       appended = c.advance.ensures.appended;
       err = c.advance.ensures.err;

@@ -1,7 +1,7 @@
-use Rattle.dr_migrate.proofs.Stepped.{exit_turn_in_step}
+use Rattle.dr_migrate.proofs.StillDeposited.{exit_turn_keeps_all}
 use Rattle.dr_migrate.proofs.leaving.exit.Goals as goal
 
-pub returns-clause-in_step : goal.returns-clause-in_step
-returns-clause-in_step g c =
-    exit_turn_in_step g.N.Name.guest c.args.v c.args.bench.now c.exit.new.self c.args.collector.now c.exit.result c.requires.in_step
+pub returns-clause-all_deposited : goal.returns-clause-all_deposited
+returns-clause-all_deposited g c =
+    exit_turn_keeps_all g.N.Name.guest c.args.v c.args.bench.now c.exit.new.self c.args.collector.now c.exit.result c.requires.all_deposited
     c.exit.ensures.stays c.exit.ensures.appended c.exit.ensures.err

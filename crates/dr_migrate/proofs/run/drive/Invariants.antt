@@ -1,5 +1,5 @@
 use Rattle.std.proofs.Common.{◌-◌, length}
-use Rattle.dr_bound.specs.Bound.{most_events}
+use Rattle.dr_schedule_law.specs.Bound.{most_events}
 use Rattle.dr_migrate.specs.Driving.{HasDriven}
 use Rattle.dr_migrate.proofs.run.drive.Given as goal
 

@@ -1,11 +1,11 @@
 use Rattle.std.proofs.Common.{refl, ◌∙◌}
-use Rattle.dr_schedule.proofs.Telling.{finished, budget_ends}
+use Rattle.dr_schedule_law.proofs.Telling.{finished, budget_ends}
 use Rattle.dr_migrate.proofs.run.wait.Goals as goal
 
 pub returns-in-Finished-clause-waited : goal.returns-in-Finished-clause-waited
 returns-in-Finished-clause-waited g c = record {
   here = refl;
-  end = finished g.N.Name.guest c.args.now c.args.bench.now.past c.keeps.ensures.legal.0 (c.requires.answer ∙ c.in-Finished.is);
+  end = finished g.N.Name.guest c.args.now c.args.bench.now.past c.recall_kept.ensures.legal.0 (c.requires.answer ∙ c.in-Finished.is);
 }
 
 pub returns-in-Budget-clause-waited : goal.returns-in-Budget-clause-waited

@@ -10,7 +10,7 @@ returns-in-Err-TooLong-clause-refusal g c =
 pub returns-clause-refusal : goal.returns-clause-refusal
 returns-clause-refusal g c =
     rw c.status_of.ensures
-    (refusal_of (g.S.Source.left c.args.source.now) (g.S.Source.faults c.args.source.now) (g.S.Source.faults c.read_all.new.source) c.in-Err.why
+    (refusal_of (g.S.Source.remaining c.args.source.now) (g.S.Source.faults c.args.source.now) (g.S.Source.faults c.read_all.new.source) c.in-Err.why
     (λ known. told_bytes 16777216 _ _ c.read_all.result _ _ c.in-Ok.bytes c.read_all.ensures c.in-Ok.is (λ bytes. guest_of bytes ≡ Err c.in-Err.why)
     (rw c.as_slice.ensures at (c.in-Err.ensures.value known))))
 
@@ -29,7 +29,7 @@ returns-in-Err-Memory-clause-takes g c =
 pub returns-clause-takes : goal.returns-clause-takes
 returns-clause-takes g c =
     rw c.status_of.ensures
-    (fault_takes c.in-Err.why (g.S.Source.left c.args.source.now) (g.S.Source.left c.read_all.new.source)
+    (fault_takes c.in-Err.why (g.S.Source.remaining c.args.source.now) (g.S.Source.remaining c.read_all.new.source)
     (drained 16777216 _ _ c.read_all.result _ _ c.in-Ok.bytes c.read_all.ensures c.in-Ok.is))
 
 pub returns-in-Ok-read_guest-clause-drained : goal.returns-in-Ok-read_guest-clause-drained

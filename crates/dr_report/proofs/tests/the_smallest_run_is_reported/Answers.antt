@@ -1,8 +1,8 @@
 use Rattle.std.proofs.Common.{subst, sym}
 use Rattle.dr_types.specs.Validity.{IsValid}
 use Rattle.dr_history.specs.Legality.{IsLegalSoFar}
-use Rattle.dr_samples.specs.Smallest.{halting_guest}
-use Rattle.dr_samples.proofs.Smallest.{halting_is_legal}
+use Rattle.dr_history_sample_law.specs.Smallest.{halting_guest}
+use Rattle.dr_history_sample_law.proofs.Smallest.{halting_is_legal}
 use Rattle.dr_report.proofs.Smallest.{halting_is_valid}
 use Rattle.dr_report.proofs.tests.the_smallest_run_is_reported.Goals as goal
 

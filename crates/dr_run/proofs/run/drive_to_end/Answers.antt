@@ -9,7 +9,7 @@ returns-clause-ends g c =
     let guest = g.N.Name.guest in
     let drive = c.drive.ensures in
     subst (λ (e : OutcomeEnd). EndsAs e guest c.drive.new.bench.past) (sym c.end_of-end.ensures)
-    (ends_as guest c.args.bench.now.past c.drive.new.bench.past c.drive.result c.requires.first c.keeps.ensures.legal.0 drive.end drive.scheduled drive.cut)
+    (ends_as guest c.args.bench.now.past c.drive.new.bench.past c.drive.result c.requires.first c.recall_kept.ensures.legal.0 drive.end drive.scheduled drive.cut)
 
 pub returns-clause-times : goal.returns-clause-times
 returns-clause-times g c =

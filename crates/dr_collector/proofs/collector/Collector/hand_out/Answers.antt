@@ -1,6 +1,6 @@
 use Rattle.std.proofs.Common.{List, refl, subst, set}
 use Rattle.std.proofs.lemmas.Option.{slice_get_read}
-use Rattle.dr_rings.specs.Seated.{MovesAt}
+use Rattle.dr_ring_set.specs.Seated.{MovesAt}
 use Rattle.dr_collector.specs.Collected.{Collected}
 use Rattle.dr_collector.specs.Batched.{as_batch}
 use Rattle.dr_collector.specs.Pending.{HandsOut, all_collected}

@@ -1,12 +1,12 @@
 use Rattle.std.proofs.Common.{◌≤◌, ◌<◌, ◌∙◌, ap, sym, subst, arith}
 use Rattle.dr_types.specs.Scripts.{vcpu_count}
 use Rattle.dr_history.specs.Execution.{ops}
-use Rattle.dr_turns.proofs.Starting.{few_ops}
-use Rattle.dr_log.specs.State.{State}
+use Rattle.dr_turns_law.proofs.Starting.{few_ops}
+use Rattle.dr_log.specs.Views.{LogView}
 use Rattle.dr_log.proofs.log.Log.next_number.Goals as goal
 
 pub overflow_cast-result : goal.overflow_cast-result
 overflow_cast-result c =
     let log = c.args.self.now in
-    let few : ops c.args.v log.past ≤ 200000 = few_ops log.guest c.args.v log.past c.is_legal.ensures.valid c.is_legal.ensures.legal c.requires in
+    let few : ops c.args.v log.past ≤ 200000 = few_ops log.guest c.args.v log.past c.recall_legal.ensures.valid c.recall_legal.ensures.legal c.requires in
     rw c.ops.ensures (omega arith)

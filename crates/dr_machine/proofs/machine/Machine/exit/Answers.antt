@@ -2,11 +2,11 @@ use Rattle.std.proofs.Common.{◌≡◌, ◌<◌, ◌∙◌, max, true, ap, sym,
 use Rattle.dr_types.specs.declared.guest.Guest.{Guest}
 use Rattle.dr_history.specs.Legality.{IsLegalSoFar}
 use Rattle.dr_history.specs.Vcpus.{in_guest}
-use Rattle.dr_law.specs.Room.{unpushed}
-use Rattle.dr_may.specs.May.{AtRest}
+use Rattle.dr_history_law.specs.Room.{unpushed}
+use Rattle.dr_event_law.specs.May.{AtRest}
 use Rattle.dr_turns.specs.Turns.{after_exit, exit_reason}
 use Rattle.dr_turns.specs.Buffers.{all_pushed}
-use Rattle.dr_turns.proofs.Leaving.{inside_rests, exit_ends}
+use Rattle.dr_turns_law.proofs.Leaving.{inside_rests, exit_ends}
 use Rattle.dr_log_turns.proofs.Throttling.{throttles_stay, exit_throttles}
 use Rattle.dr_machine.proofs.Machines.{few_unpushed}
 use Rattle.dr_machine.proofs.machine.Machine.exit.Goals as goal
@@ -15,7 +15,7 @@ pub leave-requires-clause-rest : goal.leave-requires-clause-rest
 leave-requires-clause-rest g c κs within =
     let guest = g.N.Name.guest in
     let past = c.self.inside.log.past in
-    let legal : IsLegalSoFar guest past = subst (λ (h : Guest). IsLegalSoFar h past) c.self.invariant.0.guest_is c.is_legal.ensures.legal in
+    let legal : IsLegalSoFar guest past = subst (λ (h : Guest). IsLegalSoFar h past) c.self.invariant.0.guest_is c.recall_legal.ensures.legal in
     let inside : in_guest c.args.v past ≡ true = sym c.in_guest-inside.ensures ∙ c.if-inside.true in
     rw c.in_ok-reserve.ensures.past (inside_rests guest past c.args.v c.requires legal c.self.invariant.1 inside)
 
@@ -31,7 +31,7 @@ pub invariant_of-self-then-inside : goal.invariant_of-self-then-inside
 invariant_of-self-then-inside g c =
     let guest = g.N.Name.guest in
     let past = c.self.inside.log.past in
-    let legal : IsLegalSoFar guest past = subst (λ (h : Guest). IsLegalSoFar h past) c.self.invariant.0.guest_is c.is_legal.ensures.legal in
+    let legal : IsLegalSoFar guest past = subst (λ (h : Guest). IsLegalSoFar h past) c.self.invariant.0.guest_is c.recall_legal.ensures.legal in
     let inside : in_guest c.args.v past ≡ true = sym c.in_guest-inside.ensures ∙ c.if-inside.true in
     let rest : AtRest guest past = inside_rests guest past c.args.v c.requires legal c.self.invariant.1 inside in (
       c.leave.ensures.tied,

@@ -3,7 +3,7 @@ use Rattle.dr_types.specs.Scripts.{vcpu_count}
 use Rattle.dr_log_turns.proofs.Throttling.{throttles_begin}
 use Rattle.dr_history.specs.declared.event.Event.{Event}
 use Rattle.dr_turns.specs.Between.{AtTurnsEnd}
-use Rattle.dr_turns.proofs.Starting.{begins_at_end}
+use Rattle.dr_turns_law.proofs.Starting.{begins_at_end}
 use Rattle.dr_machine.proofs.Machines.{ties_new}
 use Rattle.dr_machine.proofs.machine.Machine.new.Goals as goal
 

@@ -1,0 +1,51 @@
+-- What an advance puts, and what it leaves where that fails.
+use Rattle.std.specs.Prelude.{◌≡◌, ℕ, ◌+◌, ◌||◌, Bool, true, false, nat_lt, if◌then◌else◌, List, []}
+use Rattle.dr_types.specs.declared.guest.Guest.{Guest}
+use Rattle.dr_types.specs.Ports.{Rose}
+use Rattle.dr_history.specs.Stream.{header, round_record, page_record, end_record}
+use Rattle.dr_turns.specs.Due.{advanced}
+use Rattle.dr_turns.specs.declared.answers.Advance.{Advance}
+use Rattle.dr_turns.specs.declared.answers.Advance.TheVariants as advance
+use Rattle.dr_bench.specs.Bench.{BenchView}
+use Rattle.dr_bench.specs.declared.bench.BenchFault.{BenchFault}
+use Rattle.dr_bench.specs.declared.bench.BenchFault.TheVariants as fault
+
+-- a page was copied
+abbrev pub is_copy : Advance → Bool
+is_copy (advance.Copied r page) = true
+is_copy a = false
+
+-- the guest was stopped
+abbrev pub is_stopping : Advance → Bool
+is_stopping advance.Stopping = true
+is_stopping a = false
+
+-- the advance answers a round whose pages are to be copied
+abbrev pub opens_at : Guest → Bool → Advance → Bool
+opens_at guest stop (advance.Answered r pages) = nat_lt guest.settings.threshold pages || stop
+opens_at guest stop a = false
+
+-- what an advance of this answer puts: `opens` where it opens a round, `pages` as the guest has,
+-- `bytes` of the page that was copied, and `sent` pages before
+abbrev pub record_bytes : Advance → Bool → ℕ → List ℕ → ℕ → List ℕ
+record_bytes advance.Started opens pages bytes sent = header pages
+record_bytes (advance.Answered r n) opens pages bytes sent = if opens then round_record r else []
+record_bytes (advance.Copied r page) opens pages bytes sent = page_record page bytes
+record_bytes advance.Switched opens pages bytes sent = end_record sent
+record_bytes a opens pages bytes sent = []
+
+-- how many pages were put then
+abbrev pub pages_after : Advance → ℕ → ℕ
+pages_after a sent = if is_copy a then sent + 1 else sent
+
+-- a put failed: the event stands, the run was given up, and the count of faults has risen
+pub record Sinks (guest : Guest) (now : ℕ) (old new : BenchView) : Type 0 where
+  pub past : new.past ≡ (advanced guest now old.past).1
+  pub failed : new.failed ≡ true
+  pub over : new.over ≡ true
+  pub risen : Rose old.faults new.faults
+
+-- what an advance leaves that fails
+abbrev pub AdvanceFails : Guest → ℕ → BenchView → BenchView → BenchFault → Type 0
+AdvanceFails guest now old new fault.Memory = new ≡ old
+AdvanceFails guest now old new fault.Sink = Sinks guest now old new

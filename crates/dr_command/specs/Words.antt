@@ -1,0 +1,63 @@
+-- The words that are a command, and the paths that they say.
+use Rattle.std.specs.Prelude.{ℕ, Bool, ◌+◌, List, [], ◌∷◌, Option, Some, None, is_some, codes}
+use Rattle.std.specs.Prelude.{if◌then◌else◌}
+use Rattle.std.specs.Str.{bytes_eq}
+use Rattle.dr_command.specs.declared.words.Paths.{Paths}
+
+-- no path is said
+abbrev pub no_paths : Paths
+no_paths = record { input = None; stream = None; image = None; journal = None }
+
+-- a path's place, where none was said before
+abbrev pub said_once : Option ℕ → ℕ → Option (Option ℕ)
+said_once None at = Some (Some at)
+said_once (Some earlier) at = None
+
+abbrev pub with_input : Paths → Option (Option ℕ) → Option Paths
+with_input paths None = None
+with_input paths (Some place) = Some (record paths { input = place })
+
+abbrev pub with_stream : Paths → Option (Option ℕ) → Option Paths
+with_stream paths None = None
+with_stream paths (Some place) = Some (record paths { stream = place })
+
+abbrev pub with_image : Paths → Option (Option ℕ) → Option Paths
+with_image paths None = None
+with_image paths (Some place) = Some (record paths { image = place })
+
+abbrev pub with_journal : Paths → Option (Option ℕ) → Option Paths
+with_journal paths None = None
+with_journal paths (Some place) = Some (record paths { journal = place })
+
+-- the paths with one more, whose option has this name and whose word stands at this place
+abbrev pub with_named : Paths → List ℕ → ℕ → Option Paths
+with_named paths name at =
+    if bytes_eq name (codes "--in") then with_input paths (said_once paths.input at)
+    else if bytes_eq name (codes "--stream") then with_stream paths (said_once paths.stream at)
+    else if bytes_eq name (codes "--image") then with_image paths (said_once paths.image at)
+    else if bytes_eq name (codes "--journal") then with_journal paths (said_once paths.journal at)
+    else None
+
+-- an option takes the next word as its path, whatever it is, but no empty one
+abbrev pub with_option : Paths → List ℕ → List ℕ → ℕ → Option Paths
+with_option paths name [] at = None
+with_option paths name (byte ∷ path) at = with_named paths name at
+
+-- the paths that these words say, of which the first stands at this place, behind the paths said
+-- before
+abbrev pub paths_from : List (List ℕ) → ℕ → Option Paths → Option Paths
+paths_from words at None = None
+paths_from [] at (Some paths) = Some paths
+paths_from (name ∷ []) at (Some paths) = None
+paths_from (name ∷ path ∷ words) at (Some paths) =
+    paths_from words (at + 2) (with_option paths name path (at + 1))
+
+-- the word `step`, and then each option at most once, with its path
+abbrev pub step_of : List (List ℕ) → Option Paths
+step_of [] = None
+step_of (word ∷ words) =
+    if bytes_eq word (codes "step") then paths_from words 1 (Some no_paths) else None
+
+-- the words are the command `step`
+abbrev pub is_step : List (List ℕ) → Bool
+is_step words = is_some (step_of words)

@@ -1,5 +1,0 @@
-use Rattle.std.proofs.Common.{rules, append_assoc}
-use Rattle.dr_guesttext.proofs.writing.put_settings.Goals as goal
-
-pub returns : goal.returns
-returns c = search (rules, append_assoc)

@@ -1,5 +1,0 @@
-use Rattle.dr_law.proofs.Named.{next_within}
-use Rattle.dr_law.proofs.answered_pages_exist.Goals as goal
-
-pub returns : goal.returns
-returns c = next_within

@@ -1,5 +1,0 @@
-use Rattle.dr_law.proofs.Execution.{executes_in_order}
-use Rattle.dr_law.proofs.executes_in_order.Goals as goal
-
-pub returns : goal.returns
-returns c = executes_in_order

@@ -1,5 +1,0 @@
-use Rattle.dr_loaded.proofs.Written.{empty_loads, painted_loads, miscounted_says_nothing}
-use Rattle.dr_loaded.proofs.samples.Goals as goal
-
-pub returns : goal.returns
-returns c = record { empty = empty_loads; painted = painted_loads; miscounted = miscounted_says_nothing }

@@ -1,5 +1,0 @@
-use Rattle.dr_may.proofs.Operations.{op_quiet}
-use Rattle.dr_may.proofs.may_execute_quietly.Goals as goal
-
-pub returns : goal.returns
-returns c = op_quiet

@@ -1,0 +1,102 @@
+//! The bytes of a page.
+ghost use Rattle.std.specs.Prelude.{◌≡◌, ◌+◌, ◌<◌, ◌≤◌, length, take, slice_index};
+ghost use Rattle.std.specs.Int.{w64, to_le_bytes};
+ghost use Rattle.dr_history.specs.Memory.{filled, overwritten, loaded};
+
+use std::marker::Model;
+
+/// A page of 4,096 bytes. Contracts see it as their list.
+#[derive(Drop)]
+pub struct PageBytes {
+    bytes: [u8; 4096],
+}
+
+impl Model for PageBytes {
+    ghost use Rattle.std.specs.Prelude.{◌≡◌, List, ℕ, length};
+    ghost use Rattle.std.specs.Coded.{coded_list, coded_ℕ};
+
+    ghost Value = { List ℕ };
+
+    ghost coded = { coded_list coded_ℕ };
+
+    ghost view = { λ page. page.bytes };
+
+    ghost invariant = { λ page. length page.bytes ≡ 4096 };
+}
+
+impl PageBytes {
+    /// A page of zeros.
+    #[tactic(auto, unfolding(dr_history::specs::Memory::filled))]
+    pub fn new() -> PageBytes
+        ensures { result ≡ filled 0 }
+    {
+        PageBytes { bytes: [0; 4096] }
+    }
+
+    /// The bytes.
+    pub fn as_slice(&self) -> &[u8]
+        ensures is { result.now ≡ self.now }
+        ensures len { length result.now ≡ 4096 }
+    {
+        &self.bytes
+    }
+
+    /// The byte at a place, and zero past the end.
+    pub fn byte(&self, at: usize) -> u8
+        ensures { result ≡ slice_index self.now at }
+    {
+        if at < 4096 { self.bytes[at] } else { 0 }
+    }
+
+    /// The eight bytes from a place on, as a number.
+    pub fn load(&self, at: usize) -> u64
+        requires { at < 4096 }
+        ensures { result ≡ loaded self.now at }
+    {
+        let b0 = self.byte(at);
+        let b1 = self.byte(at + 1);
+        let b2 = self.byte(at + 2);
+        let b3 = self.byte(at + 3);
+        let b4 = self.byte(at + 4);
+        let b5 = self.byte(at + 5);
+        let b6 = self.byte(at + 6);
+        let b7 = self.byte(at + 7);
+        u64::from_le_bytes([b0, b1, b2, b3, b4, b5, b6, b7])
+    }
+
+    /// Stores the low bytes of a value, least first.
+    pub fn store(&mut self, at: usize, len: u32, value: u64)
+        requires { at + len ≤ 4096 }
+        ensures { self.new ≡ overwritten self.old at (take len (to_le_bytes w64 value)) }
+    {
+        let word = value.to_le_bytes();
+        let len = (len as usize).min(8);
+        overwrite(&mut self.bytes, at, &word[..len]);
+    }
+
+    /// Takes the bytes of another page.
+    pub fn copy_from(&mut self, other: &PageBytes)
+        ensures { self.new ≡ other.now }
+    {
+        self.bytes.copy_from_slice(other.as_slice());
+    }
+
+    /// Stores one byte in all of the page.
+    #[tactic(auto, unfolding(dr_history::specs::Memory::filled))]
+    pub fn fill(&mut self, byte: u8)
+        ensures { self.new ≡ filled byte }
+    {
+        self.bytes = [byte; 4096];
+    }
+}
+
+/// Puts bytes in the place of others, from one place on.
+#[tactic(auto, using(crate::proofs::Used::for_overwrite))]
+fn overwrite(page: &mut [u8], at: usize, bytes: &[u8])
+    requires { at + length bytes.now ≤ length page.old }
+    ensures { page.new ≡ overwritten page.old at bytes.now }
+{
+    for i in 0..bytes.len() {
+        page[at + i] = bytes[i];
+    }
+}

@@ -1,0 +1,12 @@
+pub mod Counting
+pub mod Outlets
+pub mod Ranges
+pub mod Resetting
+pub mod Earlier
+pub mod Harvested
+pub mod Places
+pub mod Batches
+pub mod Noted
+pub mod Gathered
+pub mod Staying
+pub mod Used

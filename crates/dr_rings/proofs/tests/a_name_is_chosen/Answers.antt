@@ -1,5 +1,0 @@
-use Rattle.std.proofs.Common.{refl}
-use Rattle.dr_rings.proofs.tests.a_name_is_chosen.Goals as goal
-
-pub new-requires-clause-power : goal.new-requires-clause-power
-new-requires-clause-power g c = (3, refl)

@@ -1,7 +1,0 @@
-use Rattle.dr_rings.proofs.Batches.{stand_in_longer}
-use Rattle.dr_rings.proofs.tests.take_in.Goals as goal
-
-pub returns-clause-pushed : goal.returns-clause-pushed
-returns-clause-pushed g c =
-    let moved = c.learn.ensures in
-    (moved.0, moved.2, stand_in_longer _ _ _ _ c.args.batch.stand moved.4.1)

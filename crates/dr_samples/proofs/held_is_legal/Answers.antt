@@ -1,5 +1,0 @@
-use Rattle.dr_samples.proofs.Sample.{held_is_legal}
-use Rattle.dr_samples.proofs.held_is_legal.Goals as goal
-
-pub returns : goal.returns
-returns c = held_is_legal

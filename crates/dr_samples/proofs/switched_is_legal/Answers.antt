@@ -1,5 +1,0 @@
-use Rattle.dr_samples.proofs.Sample.{switched_is_legal}
-use Rattle.dr_samples.proofs.switched_is_legal.Goals as goal
-
-pub returns : goal.returns
-returns c = switched_is_legal

@@ -1,5 +1,0 @@
-use Rattle.dr_schedule.proofs.Cutting.{full_more}
-use Rattle.dr_schedule.proofs.growth.reap_after_full_adds_events.Goals as goal
-
-pub returns : goal.returns
-returns c = full_more

@@ -1,5 +1,0 @@
-use Rattle.dr_schedule.proofs.Ranges.{rests_of_one}
-use Rattle.dr_schedule.proofs.reaps.range_of_one_rests.Goals as goal
-
-pub returns : goal.returns
-returns c = rests_of_one

@@ -1,5 +1,0 @@
-use Rattle.dr_schedule.proofs.Extending.{reap_extends}
-use Rattle.dr_schedule.proofs.reaps.reap_extends_events.Goals as goal
-
-pub returns : goal.returns
-returns c = reap_extends

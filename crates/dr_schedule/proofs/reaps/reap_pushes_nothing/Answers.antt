@@ -1,5 +1,0 @@
-use Rattle.dr_schedule.proofs.Reaped.{reap_pushes}
-use Rattle.dr_schedule.proofs.reaps.reap_pushes_nothing.Goals as goal
-
-pub returns : goal.returns
-returns c = reap_pushes

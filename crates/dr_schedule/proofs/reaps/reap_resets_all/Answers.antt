@@ -1,5 +1,0 @@
-use Rattle.dr_schedule.proofs.Reaped.{reap_uses_none}
-use Rattle.dr_schedule.proofs.reaps.reap_resets_all.Goals as goal
-
-pub returns : goal.returns
-returns c = reap_uses_none

@@ -1,5 +1,0 @@
-use Rattle.dr_schedule.proofs.Scheduled.{follows_then}
-use Rattle.dr_schedule.proofs.schedule.blocks_follow_blocks.Goals as goal
-
-pub returns : goal.returns
-returns c = follows_then

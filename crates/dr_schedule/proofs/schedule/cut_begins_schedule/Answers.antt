@@ -1,5 +1,0 @@
-use Rattle.dr_schedule.proofs.Scheduled.{cut_begins}
-use Rattle.dr_schedule.proofs.schedule.cut_begins_schedule.Goals as goal
-
-pub returns : goal.returns
-returns c = cut_begins

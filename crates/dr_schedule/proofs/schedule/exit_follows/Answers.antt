@@ -1,5 +1,0 @@
-use Rattle.dr_schedule.proofs.Scheduled.{exit_follows}
-use Rattle.dr_schedule.proofs.schedule.exit_follows.Goals as goal
-
-pub returns : goal.returns
-returns c = exit_follows

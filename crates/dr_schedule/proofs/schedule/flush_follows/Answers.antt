@@ -1,5 +1,0 @@
-use Rattle.dr_schedule.proofs.Scheduled.{flush_follows}
-use Rattle.dr_schedule.proofs.schedule.flush_follows.Goals as goal
-
-pub returns : goal.returns
-returns c = flush_follows

@@ -1,5 +1,0 @@
-use Rattle.dr_schedule.proofs.Scheduled.{following_is_scheduled}
-use Rattle.dr_schedule.proofs.schedule.following_is_scheduled.Goals as goal
-
-pub returns : goal.returns
-returns c = following_is_scheduled

@@ -1,5 +1,0 @@
-use Rattle.dr_schedule.proofs.Scheduled.{halt_follows}
-use Rattle.dr_schedule.proofs.schedule.halt_follows.Goals as goal
-
-pub returns : goal.returns
-returns c = halt_follows

@@ -1,5 +1,0 @@
-use Rattle.dr_schedule.proofs.Scheduled.{op_follows}
-use Rattle.dr_schedule.proofs.schedule.op_follows.Goals as goal
-
-pub returns : goal.returns
-returns c = op_follows

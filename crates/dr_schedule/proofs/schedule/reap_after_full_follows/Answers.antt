@@ -1,5 +1,0 @@
-use Rattle.dr_schedule.proofs.Scheduled.{full_follows}
-use Rattle.dr_schedule.proofs.schedule.reap_after_full_follows.Goals as goal
-
-pub returns : goal.returns
-returns c = full_follows

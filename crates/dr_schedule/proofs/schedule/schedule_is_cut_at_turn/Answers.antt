@@ -1,5 +1,0 @@
-use Rattle.dr_schedule.proofs.Scheduled.{scheduled_cut}
-use Rattle.dr_schedule.proofs.schedule.schedule_is_cut_at_turn.Goals as goal
-
-pub returns : goal.returns
-returns c = scheduled_cut

@@ -1,5 +1,0 @@
-use Rattle.dr_schedule.proofs.Scheduled.{follows_cut}
-use Rattle.dr_schedule.proofs.schedule.whole_blocks_are_cut_at_turn.Goals as goal
-
-pub returns : goal.returns
-returns c = follows_cut

@@ -1,5 +1,0 @@
-use Rattle.dr_schedule.proofs.Telling.{has_op}
-use Rattle.dr_schedule.proofs.tells.awaited_op_exists.Goals as goal
-
-pub returns : goal.returns
-returns c = has_op

@@ -1,5 +1,0 @@
-use Rattle.dr_schedule.proofs.Telling.{budget_ends}
-use Rattle.dr_schedule.proofs.tells.budget_ends_run.Goals as goal
-
-pub returns : goal.returns
-returns c = budget_ends

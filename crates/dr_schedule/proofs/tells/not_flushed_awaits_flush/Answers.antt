@@ -1,5 +1,0 @@
-use Rattle.dr_schedule.proofs.Telling.{not_flushed}
-use Rattle.dr_schedule.proofs.tells.not_flushed_awaits_flush.Goals as goal
-
-pub returns : goal.returns
-returns c = not_flushed

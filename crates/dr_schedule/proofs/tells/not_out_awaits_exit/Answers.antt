@@ -1,5 +1,0 @@
-use Rattle.dr_schedule.proofs.Telling.{not_out}
-use Rattle.dr_schedule.proofs.tells.not_out_awaits_exit.Goals as goal
-
-pub returns : goal.returns
-returns c = not_out

@@ -1,5 +1,0 @@
-use Rattle.dr_schedule.proofs.Telling.{not_paced}
-use Rattle.dr_schedule.proofs.tells.not_paced_awaits_op.Goals as goal
-
-pub returns : goal.returns
-returns c = not_paced

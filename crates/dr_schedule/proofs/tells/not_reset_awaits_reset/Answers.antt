@@ -1,5 +1,0 @@
-use Rattle.dr_schedule.proofs.Telling.{not_reset}
-use Rattle.dr_schedule.proofs.tells.not_reset_awaits_reset.Goals as goal
-
-pub returns : goal.returns
-returns c = not_reset

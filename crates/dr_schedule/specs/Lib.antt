@@ -1,5 +1,0 @@
-pub mod Settled
-pub mod Reaps
-pub mod Schedule
-pub mod Waiting
-pub mod Timed

@@ -1,8 +1,0 @@
-use Rattle.dr_seats.proofs.Seating.{seat_counts, seat_at}
-use Rattle.dr_seats.proofs.pushed_are_entries.Goals as goal
-
-pub returns-clause-count : goal.returns-clause-count
-returns-clause-count c = seat_counts
-
-pub returns-clause-entries : goal.returns-clause-entries
-returns-clause-entries c = seat_at

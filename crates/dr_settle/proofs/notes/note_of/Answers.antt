@@ -1,5 +1,0 @@
-use Rattle.dr_settle.proofs.Noted.{note_counts}
-use Rattle.dr_settle.proofs.notes.note_of.Goals as goal
-
-pub returns-clause-pushed : goal.returns-clause-pushed
-returns-clause-pushed g c = note_counts g.N.Name.guest c.args.bench.now.past c.args.bench.now.seats c.args.v c.note.result c.keeps.ensures.seats c.note.ensures.note

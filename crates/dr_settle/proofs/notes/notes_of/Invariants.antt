@@ -1,9 +1,0 @@
-use Rattle.std.proofs.Common.{◌≡◌, take}
-use Rattle.dr_settle.specs.Step.{AreNotes}
-use Rattle.dr_settle.proofs.notes.notes_of.Given as goal
-
-abbrev pub invariant-loop-v : goal.invariant-loop-v
-invariant-loop-v g l = record {
-  stays : l.bench ≡ l.initial.bench;
-  notes : AreNotes (take l.v g.N.Name.rings) l.initial.bench.past l.notes;
-}

@@ -1,9 +1,0 @@
-pub mod Tests
-pub mod Answered
-pub mod Copied
-pub mod Rounds
-pub mod Told
-pub mod Behind
-pub mod Once
-pub mod Runs
-pub mod Ends

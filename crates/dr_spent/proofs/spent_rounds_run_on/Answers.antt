@@ -1,8 +1,0 @@
-use Rattle.dr_spent.proofs.Runs.{spent_begun, spent_runs}
-use Rattle.dr_spent.proofs.spent_rounds_run_on.Goals as goal
-
-pub returns : goal.returns
-returns c = record {
-  begun = spent_begun;
-  running = spent_runs;
-}

@@ -1,6 +1,0 @@
-pub mod Answering
-pub mod Going
-pub mod Copying
-pub mod Cases
-pub mod Whole
-pub mod Least

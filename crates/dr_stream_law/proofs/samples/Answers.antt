@@ -1,0 +1,5 @@
+use Rattle.dr_stream_law.proofs.Written.{empty_loads, painted_loads, miscounted_says_nothing}
+use Rattle.dr_stream_law.proofs.samples.Goals as goal
+
+pub returns : goal.returns
+returns c = record { empty = empty_loads; painted = painted_loads; miscounted = miscounted_says_nothing }

@@ -1,4 +1,0 @@
-pub mod Begun
-pub mod Counting
-pub mod Ended
-pub mod Named

@@ -1,5 +1,0 @@
-use Rattle.dr_turns.proofs.Spent.{budget_is_spent}
-use Rattle.dr_turns.proofs.laws.budget_is_spent.Goals as goal
-
-pub returns : goal.returns
-returns c = budget_is_spent

@@ -1,5 +1,0 @@
-use Rattle.dr_turns.proofs.Leaving.{exit_ends}
-use Rattle.dr_turns.proofs.laws.exit_leaves_turns_end.Goals as goal
-
-pub returns : goal.returns
-returns c = exit_ends
