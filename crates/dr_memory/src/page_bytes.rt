@@ -1,4 +1,4 @@
-//! The bytes of a page.
+//! The bytes of a page, and eight of them as a number.
 ghost use Rattle.std.specs.Prelude.{◌≡◌, ◌+◌, ◌<◌, ◌≤◌, length, take, slice_index};
 ghost use Rattle.std.specs.Int.{w64, to_le_bytes};
 ghost use Rattle.dr_history.specs.Memory.{filled, overwritten, loaded};
@@ -41,53 +41,46 @@ impl PageBytes {
         &self.bytes
     }
 
-    /// The byte at a place, and zero past the end.
-    pub fn byte(&self, at: usize) -> u8
-        ensures { result ≡ slice_index self.now at }
-    {
-        if at < 4096 { self.bytes[at] } else { 0 }
-    }
-
-    /// The eight bytes from a place on, as a number.
-    pub fn load(&self, at: usize) -> u64
-        requires { at < 4096 }
-        ensures { result ≡ loaded self.now at }
-    {
-        let b0 = self.byte(at);
-        let b1 = self.byte(at + 1);
-        let b2 = self.byte(at + 2);
-        let b3 = self.byte(at + 3);
-        let b4 = self.byte(at + 4);
-        let b5 = self.byte(at + 5);
-        let b6 = self.byte(at + 6);
-        let b7 = self.byte(at + 7);
-        u64::from_le_bytes([b0, b1, b2, b3, b4, b5, b6, b7])
-    }
-
-    /// Stores the low bytes of a value, least first.
-    pub fn store(&mut self, at: usize, len: u32, value: u64)
-        requires { at + len ≤ 4096 }
-        ensures { self.new ≡ overwritten self.old at (take len (to_le_bytes w64 value)) }
-    {
-        let word = value.to_le_bytes();
-        let len = (len as usize).min(8);
-        overwrite(&mut self.bytes, at, &word[..len]);
-    }
-
     /// Takes the bytes of another page.
-    pub fn copy_from(&mut self, other: &PageBytes)
-        ensures { self.new ≡ other.now }
+    pub fn copy_from(&mut self, page: &[u8])
+        requires { length page.now ≡ 4096 }
+        ensures { self.new ≡ page.now }
     {
-        self.bytes.copy_from_slice(other.as_slice());
+        self.bytes.copy_from_slice(page);
     }
+}
 
-    /// Stores one byte in all of the page.
-    #[tactic(auto, unfolding(dr_history::specs::Memory::filled))]
-    pub fn fill(&mut self, byte: u8)
-        ensures { self.new ≡ filled byte }
-    {
-        self.bytes = [byte; 4096];
-    }
+/// The byte at a place, and zero past the end.
+fn byte(page: &[u8], at: usize) -> u8
+    ensures { result ≡ slice_index page.now at }
+{
+    if at < page.len() { page[at] } else { 0 }
+}
+
+/// The eight bytes from a place on, as a number, the least first.
+pub fn load(page: &[u8], at: usize) -> u64
+    requires { at < 4096 }
+    ensures { result ≡ loaded page.now at }
+{
+    let b0 = byte(page, at);
+    let b1 = byte(page, at + 1);
+    let b2 = byte(page, at + 2);
+    let b3 = byte(page, at + 3);
+    let b4 = byte(page, at + 4);
+    let b5 = byte(page, at + 5);
+    let b6 = byte(page, at + 6);
+    let b7 = byte(page, at + 7);
+    u64::from_le_bytes([b0, b1, b2, b3, b4, b5, b6, b7])
+}
+
+/// Stores the low bytes of a value, least first.
+pub fn store(page: &mut [u8], at: usize, len: u32, value: u64)
+    requires { at + len ≤ length page.old }
+    ensures { page.new ≡ overwritten page.old at (take len (to_le_bytes w64 value)) }
+{
+    let word = value.to_le_bytes();
+    let len = (len as usize).min(8);
+    overwrite(page, at, &word[..len]);
 }
 
 /// Puts bytes in the place of others, from one place on.

@@ -5,7 +5,7 @@ ghost use Rattle.dr_history.specs.Memory.{filled, overwritten, loaded};
 ghost use Rattle.dr_memory.specs.Stores.{has_room, bytes_of, with_bytes, with_room, held_bytes};
 
 use crate::own_page::OwnPage;
-use crate::page_bytes::PageBytes;
+use crate::page_bytes::{PageBytes, load};
 use dr_types::Memory;
 use std::alloc::Global;
 use std::marker::Model;
@@ -64,18 +64,12 @@ impl PageStore {
     /// The bytes of a page.
     pub fn page(&self, page: u32) -> &[u8]
         requires { page < length self.now.pages }
-        ensures { result.now ≡ bytes_of page self.now }
-    {
-        self.bytes(page).as_slice()
-    }
-
-    fn bytes(&self, page: u32) -> &PageBytes
-        requires { page < length self.now.pages }
-        ensures { result.now ≡ bytes_of page self.now }
+        ensures is { result.now ≡ bytes_of page self.now }
+        ensures len { length result.now ≡ 4096 }
     {
         match &self.pages[page as usize] {
-            Some(bytes) => bytes.as_page(),
-            None => &self.zeros,
+            Some(bytes) => bytes.as_slice(),
+            None => self.zeros.as_slice(),
         }
     }
 
@@ -84,7 +78,7 @@ impl PageStore {
         requires { page < length self.now.pages }
         ensures { into.new ≡ bytes_of page self.now }
     {
-        into.copy_from(self.bytes(page));
+        into.copy_from(self.page(page));
     }
 
     /// The eight bytes of a page from a place on, the least first. Past its end are zeros.
@@ -93,7 +87,7 @@ impl PageStore {
         requires within { at < 4096 }
         ensures { result ≡ loaded (bytes_of page self.now) at }
     {
-        self.bytes(page).load(at as usize)
+        load(self.page(page), at as usize)
     }
 
     /// The page has memory of its own.
