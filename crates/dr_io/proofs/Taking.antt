@@ -67,19 +67,33 @@ all_taken limit before then now old mid new all buf turn t r is fits = record {
       (cc (ok, same), done.1);
   fits = λ bytes ok. let same : all ≡ bytes = cc (ok) in subst (λ xs. length xs ≤ limit) same fits;
   part = λ why told no. absurd (cc (no));
+  most = λ told rest e remaining.
+      let sofar : IsTaken told all mid = t.taken told e in
+      let done : (drop (length all) told ≡ []) × (new ≡ Some []) = r.ended (drop (length all) told) is sofar.rest in
+      let same : all ≡ told = whole told all sofar done.0 in
+      let few : length told ≤ limit = subst (λ xs. length xs ≤ limit) same fits in
+      omega (arith, few);
   long = λ told rest no. absurd (cc (no));
   short = λ told rest no. absurd (cc (no));
   later = omega (arith, t.later, r.later);
   risen = λ no. absurd (cc (no));
 }
 
+-- one piece more
+pub piece_more : (limit n : ℕ) (all buf : List ℕ) → length all ≤ limit → n ≤ length buf → length buf ≡ 4096
+    → length (all ++ take n buf) ≤ limit + 4096
+piece_more limit n all buf few fits size =
+    rw (length-append all (take n buf) ∙ ap (λ k. length all + k) (length-take-le n buf fits)) (omega (arith, few, fits, size))
+
 -- more than the limit came
 pub too_many : (limit before now : ℕ) (old new : Option (List ℕ)) (all : List ℕ)
-    → Taken old before all new now → limit < length all → ReadsAll limit old before (Err fault.TooLong) new now
-too_many limit before now old new all t more = record {
+    → Taken old before all new now → limit < length all → length all ≤ limit + 4096
+    → ReadsAll limit old before (Err fault.TooLong) new now
+too_many limit before now old new all t more few = record {
   all = λ bytes told no. absurd (cc (no));
   fits = λ bytes no. absurd (cc (no));
   part = λ why told no e. part_taken told all new (t.taken told e);
+  most = λ told rest e is. omega (arith, left_over told all rest new (t.taken told e) is, few);
   long = λ told rest no e is. omega (arith, left_over told all rest new (t.taken told e) is);
   short = λ told rest no. absurd (cc (no));
   later = t.later;
@@ -96,6 +110,7 @@ cut_short limit before then now old mid new all buf turn t r is fits =
       all = λ bytes told no. absurd (cc (no));
       fits = λ bytes no. absurd (cc (no));
       part = λ why told no e. part_taken told all new (rw kept (t.taken told e));
+      most = λ told rest e remaining. omega (arith, left_over told all rest new (rw kept (t.taken told e)) remaining, fits);
       long = λ told rest no. absurd (cc (no));
       short = λ told rest no e remaining. omega (arith, left_over told all rest new (rw kept (t.taken told e)) remaining);
       later = omega (arith, t.later, r.later);
@@ -104,11 +119,12 @@ cut_short limit before then now old mid new all buf turn t r is fits =
 
 -- there was no room for what came last
 pub no_room : (limit before now : ℕ) (old new : Option (List ℕ)) (all : List ℕ) → Taken old before all new now
-    → ReadsAll limit old before (Err fault.Memory) new now
-no_room limit before now old new all t = record {
+    → length all ≤ limit + 4096 → ReadsAll limit old before (Err fault.Memory) new now
+no_room limit before now old new all t few = record {
   all = λ bytes told no. absurd (cc (no));
   fits = λ bytes no. absurd (cc (no));
   part = λ why told no e. part_taken told all new (t.taken told e);
+  most = λ told rest e is. omega (arith, left_over told all rest new (t.taken told e) is, few);
   long = λ told rest no. absurd (cc (no));
   short = λ told rest no. absurd (cc (no));
   later = t.later;

@@ -22,7 +22,8 @@ pub record Reads (old : Option (List ℕ)) (before : ℕ) (buf : List ℕ) (resu
 abbrev pub IsPartTaken : List ℕ → Option (List ℕ) → Type 0
 IsPartTaken told new = (n : ℕ) × (n ≤ length told) × (new ≡ Some (drop n told))
 
--- all that is left: at most so many bytes, or more of them were taken, or a fault was counted
+-- All that is left: at most so many bytes, or more of them were taken, or a fault was counted. In
+-- each case no more was taken than the limit and one piece of 4,096 bytes.
 pub record ReadsAll (limit : ℕ) (old : Option (List ℕ)) (before : ℕ)
     (result : Result (List ℕ) ReadFault)
     (new : Option (List ℕ)) (now : ℕ) : Type 0 where
@@ -31,6 +32,8 @@ pub record ReadsAll (limit : ℕ) (old : Option (List ℕ)) (before : ℕ)
   pub fits : (bytes : List ℕ) → result ≡ Ok bytes → length bytes ≤ limit
   pub part : (why : ReadFault) (told : List ℕ) → result ≡ Err why → old ≡ Some told
       → IsPartTaken told new
+  pub most : (told rest : List ℕ) → old ≡ Some told → new ≡ Some rest
+      → length told ≤ limit + 4096 + length rest
   pub long : (told rest : List ℕ) → result ≡ Err fault.TooLong → old ≡ Some told → new ≡ Some rest
       → limit + length rest < length told
   pub short : (told rest : List ℕ) → result ≡ Err fault.Failed → old ≡ Some told → new ≡ Some rest
