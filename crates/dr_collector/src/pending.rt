@@ -81,6 +81,10 @@ impl Pending {
         ensures entries { self.new.entries ≡ [] }
     {
         self.handed = handed;
+        // Room that was made and not used stays for the next harvest: most find nothing.
+        if self.entries.is_empty() {
+            return Listed::new(alloc);
+        }
         Listed::from_vec(mem::replace(&mut self.entries, Vec::new(alloc)))
     }
 }

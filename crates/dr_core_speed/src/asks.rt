@@ -109,11 +109,7 @@ pub fn resets(core: &Core, v: u32) -> u64
 pub fn is_full(core: &Core, v: u32) -> bool
     ensures { v < vcpu_count core.now.guest → result ≡ is_full core.now.guest v core.now.past }
 {
-    let settings = &core.log().guest().settings;
-    let limit = settings
-        .ring
-        .saturating_sub(settings.reserve)
-        .saturating_sub(settings.buffer);
+    let limit = core.log().guest().settings.soft_limit();
     pushes(core, v).saturating_sub(resets(core, v)) >= u64::from(limit)
 }
 

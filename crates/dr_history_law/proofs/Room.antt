@@ -9,7 +9,7 @@ use Rattle.dr_history.specs.declared.event.Event.TheVariants.{Write, Paint, Open
 use Rattle.dr_history.specs.Entries.{opens, pushes, resets, used}
 use Rattle.dr_history.specs.Legality.{IsLegalSoFar}
 use Rattle.dr_history_law.specs.Order.{last_opens_for}
-use Rattle.dr_history_law.specs.Room.{unpushed, room, FitsRing}
+use Rattle.dr_history_law.specs.Room.{unpushed, room, FitsRing, RoomInRing}
 use Rattle.dr_history_law.proofs.Kept.{op_facts, Executes}
 use Rattle.dr_history_law.proofs.Outstanding.{pushed_opened}
 use Rattle.dr_history_law.proofs.Order.{reset_pushed, owed, unowed, open_count, none_owed}
@@ -67,8 +67,11 @@ pub finds_room : (guest : Guest) (past : List Event) (v : ℕ) → FitsRing gues
 finds_room guest past v fits legal lt =
     ring_case (last_opens_for v past) (opens v past) (pushes v past) (resets v past) guest.settings.ring guest.settings.reserve guest.settings.buffer fits.reserve fits.ring lt (opens_in_room guest past v legal)
 
-room_in_case : (ring reserve buffer : ℕ) → 1 ≤ reserve → reserve + buffer < ring → ring - reserve - buffer - 1 + max 1 buffer < ring
-room_in_case ring reserve buffer a b = omega arith
+room_in_case : (ring reserve buffer : ℕ) → reserve + buffer < ring → ring - reserve - buffer - 1 + max 1 buffer + reserve ≤ ring
+room_in_case ring reserve buffer a = omega arith
 
-pub room_in_ring : (guest : Guest) → FitsRing guest → room guest < guest.settings.ring
-room_in_ring guest fits = room_in_case guest.settings.ring guest.settings.reserve guest.settings.buffer fits.reserve fits.ring
+pub room_in_ring : (guest : Guest) → FitsRing guest → RoomInRing guest
+room_in_ring guest fits = room_in_case guest.settings.ring guest.settings.reserve guest.settings.buffer fits.ring
+
+pub room_below_ring : (guest : Guest) → FitsRing guest → room guest < guest.settings.ring
+room_below_ring guest fits = omega (arith, room_in_ring guest fits, fits.reserve)

@@ -24,9 +24,9 @@ pub record FitsRing (guest : Guest) : Type 0 where
   pub reserve : 1 ≤ guest.settings.reserve
   pub ring : guest.settings.reserve + guest.settings.buffer < guest.settings.ring
 
--- the room is less than the ring
+-- the room is no more than the ring without its reserve
 abbrev pub RoomInRing : Guest → Type 0
-RoomInRing guest = room guest < guest.settings.ring
+RoomInRing guest = room guest + guest.settings.reserve ≤ guest.settings.ring
 
 -- an entry that was opened finds room in the ring
 abbrev pub FindsRoom : Guest → List Event → Type 0

@@ -159,7 +159,7 @@ pub fn stays_in_room()
         → StaysInRoom guest past }
 {}
 
-/// The room is less than the ring.
+/// The room is no more than the ring without its reserve.
 pub fn room_in_ring()
     ensures { (guest : Guest) → FitsRing guest → RoomInRing guest }
 {}

@@ -111,6 +111,15 @@ impl<W: Write + Drop> Outlet for PortFiles<W> {
 
     ghost faults = { λ p. p };
 
+    fn is_wanted(&self, port: Port) -> bool {
+        match port {
+            Port::Report => self.report.is_some(),
+            Port::Stream => self.stream.is_some(),
+            Port::Image => self.image.is_some(),
+            Port::Journal => self.journal.is_some(),
+        }
+    }
+
     fn put(&mut self, port: Port, bytes: &[u8]) -> PutTurn {
         let written = match port {
             Port::Report => is_written(&mut self.report, bytes),

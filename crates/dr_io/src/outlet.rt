@@ -1,5 +1,5 @@
-ghost use Rattle.std.specs.Prelude.{ℕ};
-ghost use Rattle.dr_types.specs.Ports.{Ports};
+ghost use Rattle.std.specs.Prelude.{◌≡◌, ℕ, false, None};
+ghost use Rattle.dr_types.specs.Ports.{Ports, told_at};
 ghost use Rattle.dr_io.specs.Puts.{Puts};
 
 use dr_types::Port;
@@ -19,6 +19,14 @@ pub trait Outlet: Drop {
     ghost told: { Self → Ports };
 
     ghost faults: { Self → ℕ };
+
+    /// Whether bytes that are put on a port go anywhere. Where they don't, nothing is told of the
+    /// port, and what would be put there need not be made.
+    fn is_wanted(&self, port: Port) -> bool
+        ensures { result ≡ false → told_at port (told self.now) ≡ None }
+    {
+        true
+    }
 
     /// Adds bytes to a port. Where it fails, some first part of them was added, and the count of
     /// faults has risen.

@@ -94,6 +94,10 @@ impl<W: Write + Drop, O: Opener> Outlet for FilePorts<W, O> {
 
     ghost faults = { λ p. p };
 
+    fn is_wanted(&self, port: Port) -> bool {
+        port == Port::Report || self.opener.names(port)
+    }
+
     fn put(&mut self, port: Port, bytes: &[u8]) -> PutTurn {
         self.open_once();
         if self.ends.put(port, bytes) {

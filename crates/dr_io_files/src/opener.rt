@@ -10,6 +10,9 @@ use std::{fs, io};
 pub trait Opener: Drop {
     type Writer: Write + Drop;
 
+    /// Whether the port has a name.
+    fn names(&self, port: Port) -> bool;
+
     /// The writer of a port, or nothing where the port has no name.
     fn open(&mut self, port: Port) -> Option<io::Result<Self::Writer>>;
 }
@@ -52,6 +55,10 @@ impl<R: Files + Drop> PathOpener<R> {
 
 impl<R: Files + Drop> Opener for PathOpener<R> {
     type Writer = R::File;
+
+    fn names(&self, port: Port) -> bool {
+        self.paths.of(port).is_some()
+    }
 
     fn open(&mut self, port: Port) -> Option<io::Result<R::File>> {
         let path = self.paths.of(port)?;

@@ -162,6 +162,10 @@ impl FakeOpener {
 impl Opener for FakeOpener {
     type Writer = FakeFile;
 
+    fn names(&self, port: Port) -> bool {
+        self.plan(port) != Unnamed
+    }
+
     fn open(&mut self, port: Port) -> Option<io::Result<FakeFile>> {
         match self.plan(port) {
             Unnamed => None,
@@ -179,12 +183,23 @@ struct Faked {
 
 /// A report that takes all, and ports by these plans.
 fn make_faked(alloc: Global, stream: Plan, image: Plan, journal: Plan) -> Result<Faked, Fail> {
+    make_reported(alloc, 1_000, stream, image, journal)
+}
+
+/// The same, with a report that fails past so many writes.
+fn make_reported(
+    alloc: Global,
+    writes: u32,
+    stream: Plan,
+    image: Plan,
+    journal: Plan,
+) -> Result<Faked, Fail> {
     let record = new_record(alloc)?;
     let report = FakeFile {
         record: record.clone()?,
         port: Port::Report,
         piece: 1_000_000,
-        writes: 1_000,
+        writes,
     };
     let opener = FakeOpener {
         record: record.clone()?,
@@ -381,6 +396,52 @@ fn finish_tells_of_what_could_not_be_written(rt: HostRuntime) -> Result<(), Fail
         } = make_faked(rt.alloc(), plan, plan, Unnamed)?;
         assert_eq!(rt; put_on(&mut ports, port, "abcd"), PutTurn::Done);
         assert_eq!(rt; ports.finish(), expected, "{port:?} {plan:?}");
+    }
+    Ok(())
+}
+
+/// The one write of a put goes well, and the flush at the end fails.
+#[test]
+fn finish_flushes_the_journal(rt: HostRuntime) -> Result<(), Fail> {
+    for (writes, expected) in [(1, false), (2, true)] {
+        let plan = Takes {
+            piece: 1_000_000,
+            writes,
+        };
+        let Faked {
+            record: _,
+            mut ports,
+        } = make_faked(rt.alloc(), Unnamed, Unnamed, plan)?;
+        assert_eq!(rt; put_on(&mut ports, Port::Journal, "a"), PutTurn::Done);
+        assert_eq!(rt; ports.finish(), expected, "{writes}");
+    }
+    Ok(())
+}
+
+#[test]
+fn finish_flushes_the_report(rt: HostRuntime) -> Result<(), Fail> {
+    for (writes, expected) in [(1, false), (2, true)] {
+        let Faked {
+            record: _,
+            mut ports,
+        } = make_reported(rt.alloc(), writes, Unnamed, Unnamed, Unnamed)?;
+        assert_eq!(rt; put_on(&mut ports, Port::Report, "a"), PutTurn::Done);
+        assert_eq!(rt; ports.finish(), expected, "{writes}");
+    }
+    Ok(())
+}
+
+#[test]
+fn ports_without_a_name_are_not_wanted(rt: HostRuntime) -> Result<(), Fail> {
+    let Faked { record: _, ports } = make_faked(rt.alloc(), WHOLE, Unnamed, Refused)?;
+    let wanted = [
+        (Port::Report, true),
+        (Port::Stream, true),
+        (Port::Image, false),
+        (Port::Journal, true),
+    ];
+    for (port, expected) in wanted {
+        assert_eq!(rt; ports.is_wanted(port), expected, "{port:?}");
     }
     Ok(())
 }

@@ -8,7 +8,7 @@ ghost use Rattle.dr_history.specs.Lookback.{count, since, before};
 ghost use Rattle.dr_history.specs.Rules.{deposits_entry, deposits_some};
 ghost use Rattle.dr_history.specs.Rounds.{is_reset_in};
 ghost use Rattle.dr_history.specs.Throttles.{throttle};
-ghost use Rattle.dr_history.specs.Vcpus.{in_guest, kicked, halted, all_paced, some_kicked};
+ghost use Rattle.dr_history.specs.Vcpus.{in_guest, kicked, halted, is_full, all_paced, some_kicked};
 ghost use Rattle.dr_state.specs.Rows.{row_of};
 
 use crate::deposits::{is_deposited, some_deposited};
@@ -128,6 +128,14 @@ impl Log {
     {
         let row = self.row(v);
         row.pushes.saturating_sub(row.resets)
+    }
+
+    /// A vCPU's ring is soft full.
+    pub fn is_full(&self, v: u32) -> bool
+        requires { v < vcpu_count self.now.guest }
+        ensures { result ≡ is_full self.now.guest v self.now.past }
+    {
+        u64::from(self.guest.settings.soft_limit()) <= self.used(v)
     }
 
     /// The page of an entry that a vCPU opened; `None` where it opened none of this number.

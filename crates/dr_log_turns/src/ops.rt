@@ -13,15 +13,6 @@ use dr_log::Log;
 use dr_turns::Turn;
 use dr_types::{Guest, Memory, Op, Step};
 
-/// From so many used places on a ring is soft full.
-pub fn soft_limit(guest: &Guest) -> u64
-    ensures { result ≡ soft_limit guest.now }
-{
-    let settings = &guest.settings;
-    let unreserved = settings.ring.saturating_sub(settings.reserve);
-    u64::from(unreserved.saturating_sub(settings.buffer))
-}
-
 /// How many entries fill a buffer.
 pub fn full_buffer(guest: &Guest) -> u64
     ensures { result ≡ max 1 guest.now.settings.buffer }
@@ -35,7 +26,7 @@ fn refusal(log: &Log, over: bool, v: u32) -> Option<Turn>
     ensures { result ≡ refusal log.now.guest over v log.now.past }
 {
     let used = log.used(v);
-    let soft = soft_limit(log.guest());
+    let soft = u64::from(log.guest().settings.soft_limit());
     if over {
         Some(Turn::Over)
     } else if log.halted(v) {

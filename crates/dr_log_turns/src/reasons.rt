@@ -2,7 +2,6 @@ ghost use Rattle.std.specs.Prelude.{◌≡◌, ◌<◌};
 ghost use Rattle.dr_types.specs.Scripts.{vcpu_count};
 ghost use Rattle.dr_turns.specs.Turns.{exit_reason};
 
-use crate::ops::soft_limit;
 use dr_log::Log;
 use dr_types::Why;
 
@@ -17,7 +16,7 @@ pub fn exit_reason(log: &Log, v: u32) -> Why
         Why::Stopped
     } else if log.kicked(v) {
         Why::Kicked
-    } else if soft_limit(log.guest()) <= log.used(v) {
+    } else if log.is_full(v) {
         Why::Full
     } else {
         Why::Yield

@@ -102,9 +102,9 @@ module _ {guest : Guest} {v : ℕ} {old new : MachineView} {result : Result Turn
   pub op_room : (u : ℕ) → used u new.past + unpushed u new.past ≤ room guest
   op_room u = legal_room guest new.past u turn.after
 
-  -- and a place of each ring is free
-  pub op_place : (u : ℕ) → used u new.past < guest.settings.ring
+  -- so the reserve of each ring is free
+  pub op_place : (u : ℕ) → used u new.past + unpushed u new.past + guest.settings.reserve ≤ guest.settings.ring
   op_place u =
       let most : used u new.past + unpushed u new.past ≤ room guest = op_room u in
-      let less : room guest < guest.settings.ring = room_in_ring guest (valid_ring guest turn.valid) in
-      omega (arith, most, less)
+      let fits : room guest + guest.settings.reserve ≤ guest.settings.ring = room_in_ring guest (valid_ring guest turn.valid) in
+      omega (arith, most, fits)

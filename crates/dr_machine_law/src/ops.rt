@@ -34,10 +34,11 @@ pub fn op<N: Name>(machine: &mut Machine<N>, rings: &Rings<N>, v: u32) -> Result
         → OnOk result ((writable page machine.new.past || closing page machine.new.past) ≡ true) }
     ensures room { (u : ℕ)
         → used u machine.new.past + unpushed u machine.new.past ≤ room N.guest }
-    ensures place { (u : ℕ) → used u machine.new.past < N.guest.settings.ring }
+    ensures place { (u : ℕ) → used u machine.new.past + unpushed u machine.new.past
+        + N.guest.settings.reserve ≤ N.guest.settings.ring }
 {
     machine.recall_kept();
-    machine.guest();
+    let _recall_guest = machine.guest();
     let turn = machine.op(rings, v);
     machine.recall_kept();
     turn

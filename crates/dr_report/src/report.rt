@@ -40,7 +40,7 @@ fn guest_line(alloc: Global, guest: &Guest) -> Result<String, Memory>
     let pages = page_count(guest);
     let vcpus = guest.scripts.len();
     let ring = settings.ring;
-    let soft = ring - settings.reserve - settings.buffer;
+    let soft = settings.soft_limit();
     let mut text = String::new(alloc);
     write!(
         text,

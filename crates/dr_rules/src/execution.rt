@@ -4,10 +4,9 @@ ghost use Rattle.dr_history.specs.Rules.{not_switched, op_before_stop, op_not_ki
 ghost use Rattle.dr_history.specs.Rules.{op_has_buffer, follows_script, before_fault};
 ghost use Rattle.dr_history.specs.Entries.{opens, pushes};
 ghost use Rattle.dr_history.specs.Execution.{ops, acc, is_store};
-ghost use Rattle.dr_history.specs.Vcpus.{is_full};
 ghost use Rattle.dr_rules.specs.Named.{IsNamed};
 
-use crate::ops::{is_fill, is_halt, is_load, is_local, is_store, soft_limit, vcpu_of_op};
+use crate::ops::{is_fill, is_halt, is_load, is_local, is_store, vcpu_of_op};
 use dr_history::Event;
 use dr_log::Log;
 
@@ -107,14 +106,6 @@ pub fn op_not_kicked(log: &Log, e: &Event) -> bool
     }
 }
 
-/// A vCPU's ring is soft full.
-pub fn is_full(log: &Log, v: u32) -> bool
-    requires { v < vcpu_count log.now.guest }
-    ensures { result ≡ is_full log.now.guest v log.now.past }
-{
-    soft_limit(log.guest()) <= log.used(v)
-}
-
 /// Rule 8: a vCPU executes nothing while its ring is soft full.
 #[tactic(auto, unfolding(dr_history::specs::Rules::op_has_room))]
 pub fn op_has_room(log: &Log, e: &Event) -> bool
@@ -122,7 +113,7 @@ pub fn op_has_room(log: &Log, e: &Event) -> bool
     ensures { result ≡ op_has_room log.now.guest log.now.past e.now }
 {
     match vcpu_of_op(e) {
-        Some(v) => !is_full(log, v),
+        Some(v) => !log.is_full(v),
         None => true,
     }
 }

@@ -6,7 +6,6 @@ ghost use Rattle.dr_history.specs.Rules.{is_cached_for, opens_protected, fills_w
 ghost use Rattle.dr_history.specs.Vcpus.{exits_for};
 ghost use Rattle.dr_rules.specs.Named.{IsNamed};
 
-use crate::execution::is_full;
 use dr_history::Event;
 use dr_log::Log;
 use dr_slots::page_of_address;
@@ -98,7 +97,7 @@ fn exits_for(why: Why, log: &Log, v: u32) -> bool
     let halted = log.halted(v);
     let stopped = log.stopped();
     let kicked = log.kicked(v);
-    let full = is_full(log, v);
+    let full = log.is_full(v);
     match why {
         Why::Halted => halted,
         Why::Stopped => !halted && stopped,

@@ -10,7 +10,7 @@ use Rattle.dr_history.specs.Entries.{pushes, resets}
 use Rattle.dr_history.specs.Legality.{IsLegalSoFar}
 use Rattle.dr_history.specs.Rules.{deposits_entry, last_owes_write}
 use Rattle.dr_history_law.specs.Order.{last_opens_for}
-use Rattle.dr_history_law.proofs.Room.{stays_in_room, room_in_ring}
+use Rattle.dr_history_law.proofs.Room.{stays_in_room, room_below_ring}
 use Rattle.dr_turns_law.proofs.Done.{reset_deposited}
 use Rattle.dr_turns_law.proofs.Buffers.{valid_ring}
 use Rattle.dr_turns.specs.Between.{AtTurnsEnd}
@@ -39,6 +39,6 @@ rest_fits guest past v n valid legal end first =
     let unowed : last_opens_for v past ≡ false = none_opens v past
     (not-true (last_owes_write past) (and_parts _ _ end.rests).0) in
     let few = stays_in_room guest past v legal unowed in
-    let room = room_in_ring guest (valid_ring guest valid) in
+    let room = room_below_ring guest (valid_ring guest valid) in
     let within = resets_within guest past v n legal first in
     omega (arith, few, room, within)

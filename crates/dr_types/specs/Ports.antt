@@ -15,6 +15,13 @@ pub record Ports : Type 0 where
 abbrev pub silent : Ports
 silent = record { report = None; stream = None; image = None; journal = None }
 
+-- what is told of a port
+abbrev pub told_at : Port → Ports → Option (List ℕ)
+told_at Report p = p.report
+told_at Stream p = p.stream
+told_at Image p = p.image
+told_at Journal p = p.journal
+
 -- a port's bytes with more behind them; of a port that isn't told, nothing is
 abbrev pub grown : Option (List ℕ) → List ℕ → Option (List ℕ)
 grown None more = None

@@ -1,4 +1,4 @@
-ghost use Rattle.std.specs.Prelude.{◌≡◌};
+ghost use Rattle.std.specs.Prelude.{◌≡◌, ◌-◌};
 
 use crate::list::Listed;
 use std::alloc::AllocError;
@@ -22,6 +22,18 @@ pub struct Settings {
     pub threshold: u32,
     pub rounds: u32,
     pub quota: u64,
+}
+
+impl Settings {
+    /// From this number of used entries on a ring is soft full: its size without the reserve and
+    /// the buffer.
+    pub fn soft_limit(&self) -> u32
+        ensures { result ≡ self.now.ring - self.now.reserve - self.now.buffer }
+    {
+        self.ring
+            .saturating_sub(self.reserve)
+            .saturating_sub(self.buffer)
+    }
 }
 
 /// One op of a vCPU's script. Addresses are guest-physical, in bytes; `gfn` is a guest frame

@@ -7,7 +7,7 @@ pub returns : goal.returns
 returns g c =
     let turn : TurnOf g.N.Name.guest c.args.v c.args.machine.now c.op-turn.new.self c.op-turn.result = record {
       vcpu = c.requires;
-      valid = subst IsValid c.guest.ensures.is c.guest.ensures.valid;
+      valid = subst IsValid c.guest-recall_guest.ensures.is c.guest-recall_guest.ensures.valid;
       before = c.recall_kept.ensures.legal;
       after = c.recall_kept-2.ensures.legal;
       stays = c.op-turn.ensures.stays;
