@@ -32,9 +32,18 @@ pub record IsRead (remaining : Option (List ℕ)) (guest : Guest) : Type 0 where
   pub file : IfTold remaining (IsFileOf guest)
   pub valid : IsValid guest
 
--- where the source tells its bytes, nothing of them is left
+-- where the source tells its bytes, nothing of them is left, and there were no more than a guest file
+-- may have
 abbrev pub IsDrained : Option (List ℕ) → Option (List ℕ) → Type 0
-IsDrained remaining new = IfTold remaining (λ bytes. new ≡ Some [])
+IsDrained remaining new =
+    IfTold remaining (λ bytes. (new ≡ Some []) × (length bytes ≤ most_bytes))
+
+-- of these bytes a first part was taken: at most as many as a guest file may have, and one piece more
+pub record TakesPart (bytes : List ℕ) (new : Option (List ℕ)) : Type 0 where
+  pub part : IsPartTaken bytes new
+  pub rest : List ℕ
+  pub remaining : new ≡ Some rest
+  pub most : length bytes ≤ most_bytes + 4096 + length rest
 
 -- of these bytes no more were taken than a guest file may have
 pub record TakesFew (bytes : List ℕ) (new : Option (List ℕ)) : Type 0 where
@@ -42,11 +51,12 @@ pub record TakesFew (bytes : List ℕ) (new : Option (List ℕ)) : Type 0 where
   pub remaining : new ≡ Some rest
   pub few : length bytes ≤ most_bytes + length rest
 
--- of these bytes more were taken than a guest file may have
+-- of these bytes more were taken than a guest file may have, and at most one piece more
 pub record TakesMany (bytes : List ℕ) (new : Option (List ℕ)) : Type 0 where
   pub rest : List ℕ
   pub remaining : new ≡ Some rest
   pub many : most_bytes + length rest < length bytes
+  pub most : length bytes ≤ most_bytes + 4096 + length rest
 
 -- what a status says of what the source told, and of what it tells then
 abbrev pub Takes : Status → Option (List ℕ) → Option (List ℕ) → Type 0
@@ -56,7 +66,7 @@ Takes (GuestFile why) remaining new = IsDrained remaining new
 Takes Unfinished remaining new = IsDrained remaining new
 Takes Outlet remaining new = IsDrained remaining new
 Takes Source remaining new = IfTold remaining (λ bytes. TakesFew bytes new)
-Takes Memory remaining new = IfTold remaining (λ bytes. IsPartTaken bytes new)
+Takes Memory remaining new = IfTold remaining (λ bytes. TakesPart bytes new)
 Takes TooLong remaining new = IfTold remaining (λ bytes. TakesMany bytes new)
 Takes other remaining new = ⊥
 

@@ -24,16 +24,16 @@ returns-in-Err-TooLong-clause-takes g c =
 
 pub returns-in-Err-Memory-clause-takes : goal.returns-in-Err-Memory-clause-takes
 returns-in-Err-Memory-clause-takes g c =
-    some_part 16777216 _ _ c.read_all.result _ _ c.in-Err-Memory.field-0 c.read_all.ensures c.in-Err-Memory.is
+    some_part _ _ c.read_all.result _ _ c.in-Err-Memory.field-0 c.read_all.ensures c.in-Err-Memory.is
 
 pub returns-clause-takes : goal.returns-clause-takes
 returns-clause-takes g c =
     rw c.status_of.ensures
     (fault_takes c.in-Err.why (g.S.Source.remaining c.args.source.now) (g.S.Source.remaining c.read_all.new.source)
-    (drained 16777216 _ _ c.read_all.result _ _ c.in-Ok.bytes c.read_all.ensures c.in-Ok.is))
+    (drained _ _ c.read_all.result _ _ c.in-Ok.bytes c.read_all.ensures c.in-Ok.is))
 
 pub returns-in-Ok-read_guest-clause-drained : goal.returns-in-Ok-read_guest-clause-drained
-returns-in-Ok-read_guest-clause-drained g c = drained 16777216 _ _ c.read_all.result _ _ c.in-Ok.bytes c.read_all.ensures c.in-Ok.is
+returns-in-Ok-read_guest-clause-drained g c = drained _ _ c.read_all.result _ _ c.in-Ok.bytes c.read_all.ensures c.in-Ok.is
 
 pub returns-in-Ok-read_guest-clause-read : goal.returns-in-Ok-read_guest-clause-read
 returns-in-Ok-read_guest-clause-read g c = record {
