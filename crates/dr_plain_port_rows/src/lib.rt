@@ -1,16 +1,8 @@
-//! The top call as tables: what a run leaves on its four ports, also where a read or a put fails.
+//! The top call as tables: what runs leave on its four ports.
 #![tactic(auto)]
 
 #[cfg(test)]
-mod cut_rows;
-#[cfg(test)]
 mod live_rows;
-#[cfg(test)]
-mod round_rows;
-#[cfg(test)]
-mod runs;
-#[cfg(test)]
-mod sleep_rows;
 #[cfg(test)]
 mod small_rows;
 #[cfg(test)]

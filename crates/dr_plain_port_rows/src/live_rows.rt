@@ -1,7 +1,7 @@
 //! Guests whose vCPUs run on behind the start of logging.
 
-use crate::runs::{joined, step_on};
 use dr_io::{Port, PortBook};
+use dr_plain_testing::{joined, step_on};
 use dr_types::Status;
 use std::alloc::{AllocError, Global};
 use std::test::Fail;

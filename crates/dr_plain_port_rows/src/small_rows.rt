@@ -1,7 +1,7 @@
 //! Guests of one page.
 
-use crate::runs::{guest_file, journal_of, report_of, source, step};
 use dr_io::{FixedClock, Port, PortBook};
+use dr_plain_testing::{guest_file, journal_of, report_of, source, step};
 use dr_types::Status;
 use std::alloc::{AllocError, Global};
 use std::test::Fail;

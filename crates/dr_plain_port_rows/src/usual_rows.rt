@@ -1,7 +1,7 @@
 //! The usual guest: four vCPUs that each count to 1,000 in a page of their own, over two slots.
 
-use crate::runs::step_on;
 use dr_io::{Port, PortBook};
+use dr_plain_testing::step_on;
 use dr_types::Status;
 use std::alloc::{AllocError, Global};
 use std::test::Fail;

@@ -1,7 +1,7 @@
 //! Runs of the smallest guest that end early, at a put or a read that fails.
 
-use crate::runs::{guest_file, journal_of, lengths, report_of, source, step, step_on};
 use dr_io::{FixedClock, Port};
+use dr_plain_testing::{guest_file, journal_of, lengths, report_of, source, step, step_on};
 use dr_types::Status;
 use std::alloc::{AllocError, Global};
 use std::test::Fail;

@@ -1,7 +1,7 @@
 //! How often and how long vCPUs sleep.
 
-use crate::runs::{joined, source, step};
 use dr_io::Clock;
+use dr_plain_testing::{joined, source, step};
 use dr_types::Status;
 use std::alloc::{AllocError, Global};
 use std::cell::Cell;

@@ -1,7 +1,7 @@
 //! When the clock is read, and where the rounds end.
 
-use crate::runs::{guest_file, joined, source, step, step_on};
 use dr_io::{Clock, Port, PortBook};
+use dr_plain_testing::{guest_file, joined, source, step, step_on};
 use dr_types::Status;
 use std::alloc::{AllocError, Global};
 use std::cell::Cell;
