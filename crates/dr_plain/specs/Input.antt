@@ -32,13 +32,14 @@ pub record IsRead (remaining : Option (List ℕ)) (guest : Guest) : Type 0 where
   pub file : IfTold remaining (IsFileOf guest)
   pub valid : IsValid guest
 
--- where the source tells its bytes, nothing of them is left, and there were no more than a guest file
--- may have
+-- where the source tells its bytes, nothing of them is left, and there were no more than a guest
+-- file may have
 abbrev pub IsDrained : Option (List ℕ) → Option (List ℕ) → Type 0
 IsDrained remaining new =
     IfTold remaining (λ bytes. (new ≡ Some []) × (length bytes ≤ most_bytes))
 
--- of these bytes a first part was taken: at most as many as a guest file may have, and one piece more
+-- of these bytes a first part was taken: at most as many as a guest file may have, and one piece
+-- more
 pub record TakesPart (bytes : List ℕ) (new : Option (List ℕ)) : Type 0 where
   pub part : IsPartTaken bytes new
   pub rest : List ℕ

@@ -5,9 +5,10 @@ use Rattle.dr_io.specs.Book.{Book, empty_book, told_by}
 use Rattle.dr_machine.specs.Views.{KeptView}
 use Rattle.dr_plain.specs.Top.{Says}
 
--- a command over a file of these bytes left this status and these ports, and kept its machine or not, as
--- the top call says it may
-pub record Leaves (bytes : List ℕ) (status : Option Status) (out : Book) (is_kept : Bool) : Type 0 where
+-- a command over a file of these bytes left this status and these ports, and kept its machine or
+-- not, as the top call says it may
+pub record Leaves (bytes : List ℕ) (status : Option Status) (out : Book)
+    (is_kept : Bool) : Type 0 where
   pub kept : Option KeptView
   pub is : is_some kept ≡ is_kept
   pub says : IfSome status (λ s. Says s (Some bytes) kept (told_by (empty_book [])) (told_by out))

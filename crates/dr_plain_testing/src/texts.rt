@@ -1,13 +1,14 @@
 //! The texts of small guests: their files, and the reports and journals of their runs.
 ghost use Rattle.std.specs.Prelude.{◌≡◌, IfOk, string_bytes};
-ghost use Rattle.std.specs.List.{concat};
+ghost use Rattle.std.specs.List.{flat_map};
 
 use dr_testing::SETTINGS;
 use std::alloc::{AllocError, Global};
 
 /// The parts, one after the other.
+#[tactic(auto, using(crate::proofs::Joining::more_part))]
 pub fn joined(alloc: Global, parts: &[&str]) -> Result<String, AllocError>
-    ensures { IfOk result (λ text. string_bytes text ≡ concat parts.now) }
+    ensures { IfOk result (λ text. string_bytes text ≡ flat_map (λ part. part.now) parts.now) }
 {
     let mut text = String::new(alloc);
     for part in parts {
