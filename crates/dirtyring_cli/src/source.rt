@@ -5,8 +5,9 @@ ghost use Rattle.dirtyring_cli.specs.Kept.{IsLonger, MovesBytes};
 use dr_io::{ReadTurn, Source};
 use dr_types::{Bytes, Listed};
 use std::alloc::Global;
+use std::cell::Cell;
 use std::io;
-use std::io::{ErrorKind, Read};
+use std::io::Read;
 use std::marker::Model;
 
 /// Where a guest file comes from.
@@ -16,8 +17,8 @@ pub enum InputFile<R: Read + Drop, F: Read + Drop> {
     Standard(R),
     /// A file that was opened by its path.
     Named(F),
-    /// A file that can't be opened: each read of it fails.
-    Unopened,
+    /// A file that can't be opened: each read of it fails for this cause.
+    Unopened(io::Error),
 }
 
 impl<R: Read + Drop, F: Read + Drop> Read for InputFile<R, F> {
@@ -25,8 +26,32 @@ impl<R: Read + Drop, F: Read + Drop> Read for InputFile<R, F> {
         match self {
             InputFile::Standard(reader) => reader.read(buf),
             InputFile::Named(file) => file.read(buf),
-            InputFile::Unopened => Err(io::Error::from(ErrorKind::Other)),
+            InputFile::Unopened(why) => Err(*why),
         }
+    }
+}
+
+/// A reader that notes why the last of its reads that failed did so.
+#[derive(Drop)]
+pub struct NotedReader<'a, R: Read + Drop> {
+    reader: R,
+    cause: &'a Cell<Option<io::Error>>,
+}
+
+impl<'a, R: Read + Drop> NotedReader<'a, R> {
+    /// The reader, whose causes are noted there.
+    pub fn new(reader: R, cause: &'a Cell<Option<io::Error>>) -> NotedReader<'a, R> {
+        NotedReader { reader, cause }
+    }
+}
+
+impl<R: Read + Drop> Read for NotedReader<'_, R> {
+    fn read(&mut self, buf: &mut [u8]) -> io::Result<usize> {
+        let read = self.reader.read(buf);
+        if let Err(why) = read {
+            self.cause.set(Some(why));
+        }
+        read
     }
 }
 

@@ -1,10 +1,14 @@
 //! What a source keeps of a text, also of a guest file that is refused.
 
-use crate::source::KeptSource;
-use dr_io::{ByteSource, FixedClock, PortBook, read_all};
+use crate::shown::Shown;
+use crate::source::{InputFile, KeptSource, NotedReader};
+use dr_io::{ByteSource, FixedClock, PortBook, ReadSource, Source, read_all};
 use dr_plain::plain_main;
 use dr_types::{FileFault, Listed, Status};
 use std::alloc::{AllocError, Global};
+use std::cell::Cell;
+use std::io;
+use std::io::ErrorKind;
 use std::test::Fail;
 
 /// A text that comes two bytes at a time, with these reads failing.
@@ -38,15 +42,20 @@ fn keeps_what_it_gave(rt: HostRuntime) -> Result<(), Fail> {
     Ok(())
 }
 
-/// The status of `step` on a file, where the file is kept.
-fn refusal(alloc: Global, file: &str) -> Result<Option<Status>, AllocError> {
-    let mut source = source(alloc, file, &[])?;
+/// The status of `step` on a source.
+fn status_of<S: Source>(alloc: Global, source: &mut S) -> Result<Option<Status>, AllocError> {
     let words = vec![in alloc; String::from_str(alloc, "step")?]?;
     let out = PortBook::new(alloc, Listed::new(alloc));
     let clock = FixedClock { now: 0 };
-    let end = plain_main(alloc, words.as_slice(), &mut source, out, &clock);
+    Ok(plain_main(alloc, words.as_slice(), source, out, &clock).status)
+}
+
+/// The status of `step` on a file, where the file is kept.
+fn refusal(alloc: Global, file: &str) -> Result<Option<Status>, AllocError> {
+    let mut source = source(alloc, file, &[])?;
+    let status = status_of(alloc, &mut source)?;
     if source.kept() == Some(file.as_bytes()) {
-        Ok(end.status)
+        Ok(status)
     } else {
         Ok(None)
     }
@@ -65,6 +74,46 @@ fn keeps_a_refused_file(rt: HostRuntime) -> Result<(), Fail> {
     for (file, fault) in rows {
         let status = refusal(rt.alloc(), file)?;
         assert_eq!(rt; status, Some(Status::GuestFile(fault)), "in {file}");
+    }
+    Ok(())
+}
+
+#[test]
+fn an_input_that_cannot_be_opened_is_a_read_that_fails(rt: HostRuntime) -> Result<(), Fail> {
+    let cause = Cell::new(None);
+    let input: InputFile<io::Empty, io::Empty> = InputFile::Unopened(io::Error::from(
+        ErrorKind::NotFound,
+    ));
+    let mut source = ReadSource::new(NotedReader::new(input, &cause));
+    assert_eq!(rt; status_of(rt.alloc(), &mut source)?, Some(Status::Source));
+    assert!(rt;
+        cause
+            .get()
+            .is_some_and(|why| why.kind() == ErrorKind::NotFound)
+    );
+    Ok(())
+}
+
+#[test]
+fn no_cause_is_noted_of_reads_that_go_well(rt: HostRuntime) -> Result<(), Fail> {
+    let cause = Cell::new(None);
+    let input: InputFile<io::Empty, io::Empty> = InputFile::Standard(io::empty());
+    let mut source = ReadSource::new(NotedReader::new(input, &cause));
+    let _status = status_of(rt.alloc(), &mut source)?;
+    assert!(rt; cause.get().is_none());
+    Ok(())
+}
+
+#[test]
+fn control_characters_are_escaped(rt: HostRuntime) -> Result<(), Fail> {
+    for (text, shown) in [
+        ("plain.guest", "plain.guest"),
+        ("two words \u{fc}", "two words \u{fc}"),
+        ("a\nb\tc", "a\\nb\\tc"),
+        ("\u{1b}[2J\u{7f}\u{85}", "\\u{1b}[2J\\u{7f}\\u{85}"),
+    ] {
+        let printed = format!(in rt.alloc(); "{}", Shown { text })?;
+        assert_eq!(rt; printed.as_str(), shown);
     }
     Ok(())
 }

@@ -15,13 +15,19 @@ held contents p = append_known (contents p.writer) p.waiting.items
 abbrev pub held_at : {T : Type 0} → (T → Option (List ℕ)) → PortEnd T → Option (List ℕ)
 held_at contents Discarded = None
 held_at contents (Open p) = held contents p
-held_at contents Broken = None
+held_at contents (Broken cause) = None
+
+-- the port takes no bytes any more
+abbrev pub is_broken : {T : Type 0} → PortEnd T → Bool
+is_broken Discarded = false
+is_broken (Open p) = false
+is_broken (Broken cause) = true
 
 -- nothing waits at the port
 abbrev pub NothingWaits : {T : Type 0} → PortEnd T → Type 0
 NothingWaits Discarded = ⊤
 NothingWaits (Open p) = p.waiting.items ≡ []
-NothingWaits Broken = ⊤
+NothingWaits (Broken cause) = ⊤
 
 -- both are one port
 abbrev pub is_same : Port → Port → Bool

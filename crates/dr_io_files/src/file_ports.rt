@@ -1,6 +1,7 @@
 ghost use Rattle.std.specs.Prelude.{◌≡◌, ℕ};
 ghost use Rattle.dr_types.specs.Ports.{silent};
 
+use crate::fault::PortFault;
 use crate::opener::Opener;
 use crate::pieces::Pieces;
 use crate::port_end::PortEnd;
@@ -12,16 +13,19 @@ use std::marker::Model;
 
 /// A report and up to three named files as the ports of an outlet. It tells of no port.
 ///
-/// All files are created at the first put on any port, and none before. Bytes of the stream and of
-/// the image wait in a buffer of 64 KiB each, and are written before a put on another port that has
-/// a writer. A port that failed once, at its creation, at a write or at a flush, fails from then
-/// on. Contracts see the count of faults.
+/// All files are created at the first put on any port, and none before. Where two ports can't be had
+/// together none is created, and each put fails. Bytes of the stream and of the image wait in a
+/// buffer of 64 KiB each, and are written before a put on another port that has a writer. A port
+/// that failed once, at its creation, at a write or at a flush, fails from then on. Contracts see
+/// the count of faults.
 #[derive(Drop)]
 pub struct FilePorts<W: Write + Drop, O: Opener> {
     ends: PortEnds<W, O::Writer>,
     opener: O,
     alloc: Global,
-    is_opened: bool,
+    /// What looking at all ports came to, from the first put on.
+    checked: Option<Result<(), PortFault>>,
+    first: Option<PortFault>,
     faults: u64,
 }
 
@@ -47,24 +51,37 @@ impl<W: Write + Drop, O: Opener> FilePorts<W, O> {
             },
             opener,
             alloc,
-            is_opened: false,
+            checked: None,
+            first: None,
             faults: 0,
         }
     }
 
-    /// Writes what waits, flushes each port, and says whether that went well. A port that failed
-    /// before has nothing left, and its puts have said so.
-    pub fn finish(mut self) -> bool {
-        self.ends.flush()
+    /// Writes what waits, flushes each port, and answers the first fault of all: of a put, or of
+    /// this. A port that failed before has nothing left.
+    pub fn finish(mut self) -> Option<PortFault> {
+        let flushed = self.ends.flush();
+        self.first.or(flushed.err())
     }
 
-    fn open_once(&mut self)
+    /// Looks at all ports and opens them, at the first put.
+    fn open_once(&mut self) -> Result<(), PortFault>
         ensures { self.new ≡ self.old }
     {
-        if self.is_opened {
-            return;
+        if let Some(checked) = self.checked {
+            return checked;
         }
-        self.is_opened = true;
+        let checked = self.opener.check();
+        self.checked = Some(checked);
+        if checked.is_ok() {
+            self.open_all();
+        }
+        checked
+    }
+
+    fn open_all(&mut self)
+        ensures { self.new ≡ self.old }
+    {
         self.ends.stream = self.opened(Port::Stream);
         self.ends.image = self.opened(Port::Image);
         self.ends.journal = self.opened(Port::Journal);
@@ -75,7 +92,7 @@ impl<W: Write + Drop, O: Opener> FilePorts<W, O> {
     {
         match self.opener.open(port) {
             None => PortEnd::Discarded,
-            Some(Err(_)) => PortEnd::Broken,
+            Some(Err(cause)) => PortEnd::Broken(cause),
             Some(Ok(writer)) => PortEnd::Open(self.pieces(port, writer)),
         }
     }
@@ -85,6 +102,13 @@ impl<W: Write + Drop, O: Opener> FilePorts<W, O> {
             Port::Stream | Port::Image => Pieces::large(self.alloc, writer),
             Port::Report | Port::Journal => Pieces::straight(self.alloc, writer),
         }
+    }
+
+    fn try_put(&mut self, port: Port, bytes: &[u8]) -> Result<(), PortFault>
+        ensures { self.new ≡ self.old }
+    {
+        self.open_once()?;
+        self.ends.put(port, bytes)
     }
 }
 
@@ -99,11 +123,13 @@ impl<W: Write + Drop, O: Opener> Outlet for FilePorts<W, O> {
     }
 
     fn put(&mut self, port: Port, bytes: &[u8]) -> PutTurn {
-        self.open_once();
-        if self.ends.put(port, bytes) {
-            return PutTurn::Done;
+        match self.try_put(port, bytes) {
+            Ok(()) => PutTurn::Done,
+            Err(fault) => {
+                self.first = self.first.or(Some(fault));
+                self.faults = self.faults.saturating_add(1);
+                PutTurn::Failed
+            }
         }
-        self.faults = self.faults.saturating_add(1);
-        PutTurn::Failed
     }
 }

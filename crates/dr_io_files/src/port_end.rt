@@ -1,8 +1,9 @@
-ghost use Rattle.std.specs.Prelude.{◌≡◌, true, false, is_ok};
+ghost use Rattle.std.specs.Prelude.{◌≡◌, Err, OnOk, OnErr, is_ok, true};
 ghost use Rattle.std.specs.Io.KnownBytes.{Appends, Keeps};
-ghost use Rattle.dr_io_files.specs.Held.{held_at, NothingWaits};
+ghost use Rattle.dr_io_files.specs.Held.{held_at, is_broken, NothingWaits};
 ghost use Rattle.dr_io_files.specs.declared.port_end.PortEnd.TheVariants.{Discarded, Broken};
 
+use crate::fault::PortCause;
 use crate::pieces::Pieces;
 use std::io;
 use std::io::Write;
@@ -15,7 +16,7 @@ pub enum PortEnd<W: Write + Drop> {
     /// It has a writer, and bytes that wait for it.
     Open(Pieces<W>),
     /// Its writer could not be had, or did not take all. It takes no bytes any more.
-    Broken,
+    Broken(PortCause),
 }
 
 impl<W: Write + Drop> PortEnd<W> {
@@ -24,66 +25,69 @@ impl<W: Write + Drop> PortEnd<W> {
         matches!(self, PortEnd::Open(_))
     }
 
-    /// Puts bytes, and says whether all are taken.
-    pub fn put(&mut self, bytes: &[u8]) -> bool
-        ensures discarded { self.old ≡ Discarded → result ≡ true }
-        ensures broken { self.old ≡ Broken → result ≡ false }
-        ensures breaks { result ≡ false → self.new ≡ Broken }
-        ensures added { result ≡ true → Appends
-            (held_at W.contents self.old) (held_at W.contents self.new) bytes.now }
+    /// Puts bytes. After an `Err` the port is broken, and each later put fails for the same cause.
+    pub fn put(&mut self, bytes: &[u8]) -> Result<(), PortCause>
+        ensures discarded { self.old ≡ Discarded → is_ok result ≡ true }
+        ensures broken { (cause : PortCause) → self.old ≡ Broken cause → result ≡ Err cause }
+        ensures breaks { OnErr result (is_broken self.new ≡ true) }
+        ensures added { OnOk result (Appends
+            (held_at W.contents self.old) (held_at W.contents self.new) bytes.now) }
     {
         match self {
-            PortEnd::Discarded => true,
+            PortEnd::Discarded => Ok(()),
             PortEnd::Open(pieces) => {
                 let added = pieces.add(bytes);
                 self.goes_on(added)
             }
-            PortEnd::Broken => false,
+            PortEnd::Broken(cause) => Err(*cause),
         }
     }
 
-    /// Writes what waits, and says whether that went well. Where nothing waits, it does nothing.
-    pub fn write_out(&mut self) -> bool
-        ensures breaks { result ≡ false → self.new ≡ Broken }
+    /// Writes what waits. Where nothing waits, it does nothing.
+    pub fn write_out(&mut self) -> Result<(), PortCause>
+        ensures breaks { OnErr result (is_broken self.new ≡ true) }
         ensures settled { NothingWaits self.new }
-        ensures kept { result ≡ true → Keeps
-            (held_at W.contents self.old) (held_at W.contents self.new) }
+        ensures kept { OnOk result (Keeps
+            (held_at W.contents self.old) (held_at W.contents self.new)) }
     {
         match self {
             PortEnd::Open(pieces) => {
                 let settled = pieces.write_out();
                 self.goes_on(settled)
             }
-            PortEnd::Discarded | PortEnd::Broken => true,
+            PortEnd::Discarded | PortEnd::Broken(_) => Ok(()),
         }
     }
 
-    /// Writes what waits, flushes the writer, and says whether that went well.
-    pub fn flush(&mut self) -> bool
-        ensures breaks { result ≡ false → self.new ≡ Broken }
+    /// Writes what waits, and flushes the writer.
+    pub fn flush(&mut self) -> Result<(), PortCause>
+        ensures breaks { OnErr result (is_broken self.new ≡ true) }
         ensures settled { NothingWaits self.new }
-        ensures kept { result ≡ true → Keeps
-            (held_at W.contents self.old) (held_at W.contents self.new) }
+        ensures kept { OnOk result (Keeps
+            (held_at W.contents self.old) (held_at W.contents self.new)) }
     {
         match self {
             PortEnd::Open(pieces) => {
                 let flushed = pieces.flush();
                 self.goes_on(flushed)
             }
-            PortEnd::Discarded | PortEnd::Broken => true,
+            PortEnd::Discarded | PortEnd::Broken(_) => Ok(()),
         }
     }
 
     /// Breaks the port where its writer failed.
-    fn goes_on(&mut self, done: io::Result<()>) -> bool
-        ensures says { result ≡ is_ok done }
-        ensures kept { result ≡ true → self.new ≡ self.old }
-        ensures breaks { result ≡ false → self.new ≡ Broken }
+    fn goes_on(&mut self, done: io::Result<()>) -> Result<(), PortCause>
+        ensures says { is_ok result ≡ is_ok done }
+        ensures kept { OnOk result (self.new ≡ self.old) }
+        ensures breaks { OnErr result (is_broken self.new ≡ true) }
     {
-        if done.is_err() {
-            *self = PortEnd::Broken;
-            return false;
+        match done {
+            Ok(()) => Ok(()),
+            Err(why) => {
+                let cause = PortCause::System(why);
+                *self = PortEnd::Broken(cause);
+                Err(cause)
+            }
         }
-        true
     }
 }

@@ -1,10 +1,13 @@
-use crate::{FilePorts, Opener, PathOpener, PortPaths};
+use crate::{
+    FileIdentity, FilePorts, Opener, OwnedFiles, Owner, PathOpener, PortCause, PortFault, PortPaths,
+};
 use Plan::{Refused, Takes, Unnamed};
 use dr_io::{Outlet, Port, PortBook, PutTurn};
 use dr_types::{Bytes, Listed};
 use std::alloc::Global;
 use std::cell::RefCell;
 use std::io::{ErrorKind, Write};
+use std::os::unix::fs::symlink;
 use std::rc::Rc;
 use std::test::Fail;
 use std::{fs, io};
@@ -86,6 +89,33 @@ const FAILS: Plan = Takes {
     writes: 0,
 };
 
+/// What becomes of all ports.
+#[derive(Clone, Copy)]
+struct Plans {
+    /// How many writes the report takes.
+    report: u32,
+    stream: Plan,
+    image: Plan,
+    journal: Plan,
+    /// A port whose file is the input's.
+    owned: Option<Port>,
+}
+
+const ALL_WHOLE: Plans = Plans {
+    report: 1_000,
+    stream: WHOLE,
+    image: WHOLE,
+    journal: WHOLE,
+    owned: None,
+};
+
+const NONE_NAMED: Plans = Plans {
+    stream: Unnamed,
+    image: Unnamed,
+    journal: Unnamed,
+    ..ALL_WHOLE
+};
+
 #[derive(Drop)]
 struct FakeFile {
     record: Shared,
@@ -143,18 +173,16 @@ fn fake_file(record: &Shared, port: Port, plan: Plan) -> io::Result<FakeFile> {
 #[derive(Drop)]
 struct FakeOpener {
     record: Shared,
-    stream: Plan,
-    image: Plan,
-    journal: Plan,
+    plans: Plans,
 }
 
 impl FakeOpener {
     fn plan(&self, port: Port) -> Plan {
         match port {
             Port::Report => Unnamed,
-            Port::Stream => self.stream,
-            Port::Image => self.image,
-            Port::Journal => self.journal,
+            Port::Stream => self.plans.stream,
+            Port::Image => self.plans.image,
+            Port::Journal => self.plans.journal,
         }
     }
 }
@@ -166,10 +194,18 @@ impl Opener for FakeOpener {
         self.plan(port) != Unnamed
     }
 
-    fn open(&mut self, port: Port) -> Option<io::Result<FakeFile>> {
+    fn check(&self) -> Result<(), PortFault> {
+        let Some(port) = self.plans.owned else {
+            return Ok(());
+        };
+        let cause = PortCause::Owned(Owner::Input);
+        Err(PortFault { port, cause })
+    }
+
+    fn open(&mut self, port: Port) -> Option<Result<FakeFile, PortCause>> {
         match self.plan(port) {
             Unnamed => None,
-            plan => Some(fake_file(&self.record, port, plan)),
+            plan => Some(fake_file(&self.record, port, plan).map_err(PortCause::System)),
         }
     }
 }
@@ -181,36 +217,52 @@ struct Faked {
     ports: FilePorts<FakeFile, FakeOpener>,
 }
 
-/// A report that takes all, and ports by these plans.
-fn make_faked(alloc: Global, stream: Plan, image: Plan, journal: Plan) -> Result<Faked, Fail> {
-    make_reported(alloc, 1_000, stream, image, journal)
-}
-
-/// The same, with a report that fails past so many writes.
-fn make_reported(
-    alloc: Global,
-    writes: u32,
-    stream: Plan,
-    image: Plan,
-    journal: Plan,
-) -> Result<Faked, Fail> {
+/// Ports by these plans.
+fn make_planned(alloc: Global, plans: Plans) -> Result<Faked, Fail> {
     let record = new_record(alloc)?;
     let report = FakeFile {
         record: record.clone()?,
         port: Port::Report,
         piece: 1_000_000,
-        writes,
+        writes: plans.report,
     };
     let opener = FakeOpener {
         record: record.clone()?,
-        stream,
-        image,
-        journal,
+        plans,
     };
     Ok(Faked {
         record,
         ports: FilePorts::new(alloc, report, opener),
     })
+}
+
+/// A report that takes all, and ports by these plans.
+fn make_faked(alloc: Global, stream: Plan, image: Plan, journal: Plan) -> Result<Faked, Fail> {
+    let plans = Plans {
+        stream,
+        image,
+        journal,
+        ..ALL_WHOLE
+    };
+    make_planned(alloc, plans)
+}
+
+/// Nothing failed, at no put and at no flush.
+fn is_whole<O: Opener>(ports: FilePorts<FakeFile, O>) -> bool {
+    ports.finish().is_none()
+}
+
+/// The first fault is this port's, by the system.
+fn failed_at(fault: Option<PortFault>, port: Port) -> bool {
+    match fault {
+        Some(
+            PortFault {
+                port: at,
+                cause: PortCause::System(_),
+            },
+        ) => at == port,
+        _ => false,
+    }
 }
 
 /// How a put of these bytes ended.
@@ -234,7 +286,7 @@ fn all_files_are_opened_at_the_first_put(rt: HostRuntime) -> Result<(), Fail> {
 #[test]
 fn nothing_is_opened_without_a_put(rt: HostRuntime) -> Result<(), Fail> {
     let Faked { record, ports } = make_faked(rt.alloc(), WHOLE, WHOLE, WHOLE)?;
-    assert!(rt; ports.finish());
+    assert!(rt; is_whole(ports));
     assert!(rt; has_opened(&record, ""));
     Ok(())
 }
@@ -252,7 +304,7 @@ fn a_file_that_cannot_be_opened_fails_its_own_puts(rt: HostRuntime) -> Result<()
     ] {
         assert_eq!(rt; put_on(&mut ports, port, "a"), expected);
     }
-    assert!(rt; ports.finish());
+    assert!(rt; failed_at(ports.finish(), Port::Image));
     assert!(rt; has_opened(&record, "sj"));
     assert!(rt; has_written(&record, "rsjs"));
     Ok(())
@@ -265,7 +317,7 @@ fn a_port_without_a_name_takes_all(rt: HostRuntime) -> Result<(), Fail> {
         assert_eq!(rt; put_on(&mut ports, port, "ab"), PutTurn::Done);
         assert!(rt; has_written(&record, ""));
     }
-    assert!(rt; ports.finish());
+    assert!(rt; is_whole(ports));
     assert!(rt; has_written(&record, "s"));
     Ok(())
 }
@@ -295,7 +347,7 @@ fn put_sizes<O: Outlet>(alloc: Global, out: &mut O) -> Result<Bytes, Fail> {
 fn bytes_come_whole_and_in_large_pieces(rt: HostRuntime) -> Result<(), Fail> {
     let Faked { record, mut ports } = make_faked(rt.alloc(), WHOLE, WHOLE, WHOLE)?;
     let all = put_sizes(rt.alloc(), &mut ports)?;
-    assert!(rt; ports.finish());
+    assert!(rt; is_whole(ports));
     assert_eq!(rt; all.len(), 262_147);
     assert!(rt; has_bytes(&record, Port::Stream, all.as_slice()));
     assert!(rt; has_written(&record, "ssssss"));
@@ -310,7 +362,7 @@ fn bytes_come_whole_to_a_file_that_takes_few(rt: HostRuntime) -> Result<(), Fail
     };
     let Faked { record, mut ports } = make_faked(rt.alloc(), few, WHOLE, WHOLE)?;
     let all = put_sizes(rt.alloc(), &mut ports)?;
-    assert!(rt; ports.finish());
+    assert!(rt; is_whole(ports));
     assert_eq!(rt; all.len(), 262_147);
     assert!(rt; has_bytes(&record, Port::Stream, all.as_slice()));
     Ok(())
@@ -352,7 +404,7 @@ fn a_failed_flush_fails_that_put(rt: HostRuntime) -> Result<(), Fail> {
     ] {
         assert_eq!(rt; put_on(&mut ports, port, "a"), expected);
     }
-    assert!(rt; ports.finish());
+    assert!(rt; failed_at(ports.finish(), Port::Stream));
     assert!(rt; has_written(&record, "jir"));
     Ok(())
 }
@@ -381,52 +433,92 @@ fn a_write_fails_in_mid_stream(rt: HostRuntime) -> Result<(), Fail> {
 
 #[test]
 fn finish_tells_of_what_could_not_be_written(rt: HostRuntime) -> Result<(), Fail> {
-    for (port, plan, expected) in [
-        (Port::Stream, WHOLE, true),
-        (Port::Stream, FAILS, false),
-        (Port::Stream, pairs(1), false),
-        (Port::Stream, pairs(2), false),
-        (Port::Stream, pairs(3), true),
-        (Port::Image, WHOLE, true),
-        (Port::Image, FAILS, false),
+    for (port, stream, image, expected) in [
+        (Port::Stream, WHOLE, WHOLE, true),
+        (Port::Stream, FAILS, FAILS, false),
+        (Port::Stream, pairs(1), WHOLE, false),
+        (Port::Stream, pairs(2), WHOLE, false),
+        (Port::Stream, pairs(3), WHOLE, true),
+        (Port::Image, WHOLE, WHOLE, true),
+        (Port::Image, WHOLE, FAILS, false),
     ] {
         let Faked {
             record: _,
             mut ports,
-        } = make_faked(rt.alloc(), plan, plan, Unnamed)?;
+        } = make_faked(rt.alloc(), stream, image, Unnamed)?;
         assert_eq!(rt; put_on(&mut ports, port, "abcd"), PutTurn::Done);
-        assert_eq!(rt; ports.finish(), expected, "{port:?} {plan:?}");
+        let fault = ports.finish();
+        assert_eq!(rt; fault.is_none(), expected, "{port:?} {stream:?} {image:?}");
+        assert_eq!(rt;
+            failed_at(fault, port),
+            !expected,
+            "{port:?} {stream:?} {image:?}"
+        );
     }
     Ok(())
 }
 
 /// The one write of a put goes well, and the flush at the end fails.
 #[test]
-fn finish_flushes_the_journal(rt: HostRuntime) -> Result<(), Fail> {
-    for (writes, expected) in [(1, false), (2, true)] {
-        let plan = Takes {
+fn finish_flushes_the_journal_and_the_report(rt: HostRuntime) -> Result<(), Fail> {
+    let journal = Plans {
+        journal: Takes {
             piece: 1_000_000,
-            writes,
-        };
+            writes: 1,
+        },
+        ..NONE_NAMED
+    };
+    let report = Plans {
+        report: 1,
+        ..NONE_NAMED
+    };
+    for (port, plans) in [(Port::Journal, journal), (Port::Report, report)] {
         let Faked {
             record: _,
             mut ports,
-        } = make_faked(rt.alloc(), Unnamed, Unnamed, plan)?;
-        assert_eq!(rt; put_on(&mut ports, Port::Journal, "a"), PutTurn::Done);
-        assert_eq!(rt; ports.finish(), expected, "{writes}");
+        } = make_planned(rt.alloc(), plans)?;
+        assert_eq!(rt; put_on(&mut ports, port, "a"), PutTurn::Done);
+        assert!(rt; failed_at(ports.finish(), port), "{port:?}");
     }
     Ok(())
 }
 
 #[test]
-fn finish_flushes_the_report(rt: HostRuntime) -> Result<(), Fail> {
-    for (writes, expected) in [(1, false), (2, true)] {
-        let Faked {
-            record: _,
-            mut ports,
-        } = make_reported(rt.alloc(), writes, Unnamed, Unnamed, Unnamed)?;
-        assert_eq!(rt; put_on(&mut ports, Port::Report, "a"), PutTurn::Done);
-        assert_eq!(rt; ports.finish(), expected, "{writes}");
+fn finish_tells_the_first_fault(rt: HostRuntime) -> Result<(), Fail> {
+    let Faked {
+        record: _,
+        mut ports,
+    } = make_faked(rt.alloc(), FAILS, Refused, FAILS)?;
+    for port in [Port::Stream, Port::Image, Port::Journal] {
+        let expected = if port == Port::Stream {
+            PutTurn::Done
+        } else {
+            PutTurn::Failed
+        };
+        assert_eq!(rt; put_on(&mut ports, port, "a"), expected, "{port:?}");
+    }
+    assert!(rt; failed_at(ports.finish(), Port::Image));
+    Ok(())
+}
+
+#[test]
+fn a_port_whose_file_is_the_inputs_fails_all_puts(rt: HostRuntime) -> Result<(), Fail> {
+    let plans = Plans {
+        owned: Some(Port::Journal),
+        ..ALL_WHOLE
+    };
+    let Faked { record, mut ports } = make_planned(rt.alloc(), plans)?;
+    for port in [Port::Stream, Port::Report, Port::Journal, Port::Image] {
+        assert_eq!(rt; put_on(&mut ports, port, "a"), PutTurn::Failed, "{port:?}");
+    }
+    assert!(rt; has_opened(&record, ""));
+    assert!(rt; has_written(&record, ""));
+    match ports.finish() {
+        Some(fault) => {
+            assert_eq!(rt; fault.port, Port::Journal);
+            assert!(rt; matches!(fault.cause, PortCause::Owned(Owner::Input)));
+        }
+        None => assert!(rt; false, "no fault"),
     }
     Ok(())
 }
@@ -479,7 +571,7 @@ fn make_folder(rt: &HostRuntime) -> io::Result<()> {
 #[test]
 fn bytes_reach_real_files(rt: HostRuntime) -> Result<(), Fail> {
     make_folder(&rt)?;
-    let opener = PathOpener::new(&rt, test_paths(rt.alloc())?);
+    let opener = PathOpener::new(&rt, test_paths(rt.alloc())?, OwnedFiles::new(None, None));
     let mut ports = FilePorts::new(rt.alloc(), io::sink(), opener);
     assert!(rt; has_text(&rt, STREAM, "earlier"));
     assert_eq!(rt; put_on(&mut ports, Port::Report, "report"), PutTurn::Done);
@@ -492,9 +584,101 @@ fn bytes_reach_real_files(rt: HostRuntime) -> Result<(), Fail> {
     ] {
         assert_eq!(rt; put_on(&mut ports, port, bytes), expected);
     }
-    assert!(rt; ports.finish());
+    assert!(rt; failed_at(ports.finish(), Port::Image));
     assert!(rt; has_text(&rt, STREAM, "some more"));
     assert!(rt; has_text(&rt, JOURNAL, "journal"));
     assert!(rt; fs::remove_dir_all(&rt, FOLDER).is_ok());
+    Ok(())
+}
+
+const LINK: &str = "dr_io_files_links/link";
+
+/// A folder with a file, a link to it and a link to nothing.
+fn make_links(rt: &HostRuntime) -> io::Result<()> {
+    let _ = fs::remove_dir_all(rt, "dr_io_files_links");
+    fs::create_dir(rt, "dr_io_files_links")?;
+    fs::write(rt, "dr_io_files_links/file", "earlier")?;
+    fs::hard_link(rt, "dr_io_files_links/file", LINK)?;
+    symlink(rt, "absent", "dr_io_files_links/dangling")
+}
+
+/// The paths of a stream and of a journal in the folder of links.
+fn link_paths(alloc: Global, stream: &str, journal: &str) -> Result<PortPaths, Fail> {
+    Ok(PortPaths {
+        stream: Some(format!(in alloc; "dr_io_files_links/{stream}")?),
+        image: None,
+        journal: Some(format!(in alloc; "dr_io_files_links/{journal}")?),
+    })
+}
+
+/// Stream and journal at these paths have one owner each, or the journal's fault tells whose its
+/// file is.
+fn owner_of(rt: &HostRuntime, stream: &str, journal: &str) -> Result<Option<Owner>, Fail> {
+    make_links(rt)?;
+    let paths = link_paths(rt.alloc(), stream, journal)?;
+    let owned = OwnedFiles::new(None, FileIdentity::of_path(rt, "dr_io_files_links/report"));
+    let mut ports = FilePorts::new(rt.alloc(), io::sink(), PathOpener::new(rt, paths, owned));
+    let _put = put_on(&mut ports, Port::Stream, "a");
+    let _put = put_on(&mut ports, Port::Journal, "b");
+    match ports.finish() {
+        Some(
+            PortFault {
+                port: Port::Journal,
+                cause: PortCause::Owned(owner),
+            },
+        ) => Ok(Some(owner)),
+        _ => Ok(None),
+    }
+}
+
+#[test]
+fn two_ports_never_have_one_file(rt: HostRuntime) -> Result<(), Fail> {
+    let stream = Some(Owner::Port(Port::Stream));
+    // The paths of two ports, whether they are one file, and what is in the file of before.
+    let rows = [
+        ("file", "other", None, "a"),
+        ("file", "file", stream, "earlier"),
+        ("file", "./file", stream, "earlier"),
+        ("file", "link", stream, "earlier"),
+        ("new", "new", stream, "earlier"),
+        ("dangling", "absent", stream, "earlier"),
+    ];
+    for (first, second, owner, kept) in rows {
+        assert_eq!(rt;
+            owner_of(&rt, first, second)?,
+            owner,
+            "{first} and {second}"
+        );
+        assert!(rt; has_text(&rt, LINK, kept), "{first} and {second}");
+    }
+    assert!(rt; fs::remove_dir_all(&rt, "dr_io_files_links").is_ok());
+    Ok(())
+}
+
+#[test]
+fn no_port_has_the_file_of_the_input(rt: HostRuntime) -> Result<(), Fail> {
+    let folder = "dr_io_files_input";
+    let _ = fs::remove_dir_all(&rt, folder);
+    fs::create_dir(&rt, folder)?;
+    fs::write(&rt, "dr_io_files_input/guest", "guest")?;
+    let input = FileIdentity::of_path(&rt, "dr_io_files_input/guest");
+    for (owned, owner) in [
+        (OwnedFiles::new(input, None), Owner::Input),
+        (OwnedFiles::new(None, input), Owner::Port(Port::Report)),
+    ] {
+        let paths = PortPaths {
+            stream: None,
+            image: Some(String::from_str(rt.alloc(), "dr_io_files_input/guest")?),
+            journal: None,
+        };
+        let mut ports = FilePorts::new(rt.alloc(), io::sink(), PathOpener::new(&rt, paths, owned));
+        assert_eq!(rt; put_on(&mut ports, Port::Report, "a"), PutTurn::Failed);
+        let fault = ports.finish();
+        assert!(rt;
+            matches!(fault, Some(PortFault { port: Port::Image, cause: PortCause::Owned(is) }) if is == owner)
+        );
+        assert!(rt; has_text(&rt, "dr_io_files_input/guest", "guest"));
+    }
+    assert!(rt; fs::remove_dir_all(&rt, folder).is_ok());
     Ok(())
 }
