@@ -25,7 +25,7 @@ abbrev pub Free : (ℕ → Bool) → List ℕ → Type 0
 Free p [] = Unit {0}
 Free p (x ∷ xs) = (p x ≡ false) × Free p xs
 
-split_front : (p : ℕ → Bool) (xs : List ℕ) (y : ℕ) (ys : List ℕ) → Free p xs → p y ≡ true → slice_split p (xs ++ y ∷ ys) ≡ xs ∷ slice_split p ys
+pub split_front : (p : ℕ → Bool) (xs : List ℕ) (y : ℕ) (ys : List ℕ) → Free p xs → p y ≡ true → slice_split p (xs ++ y ∷ ys) ≡ xs ∷ slice_split p ys
 split_front p [] y ys free passes = slice_split-cons_yes p y ys passes
 split_front p (x ∷ xs) y ys free passes = slice_split-cons_no p x (xs ++ y ∷ ys) free.0 ∙ ap (onto_first x) (split_front p xs y ys free.1 passes)
 
@@ -60,7 +60,7 @@ free_blank : (bs : List ℕ) → AllAbove bs → Free is_blank bs
 free_blank [] above = tt
 free_blank (b ∷ bs) above = (not_blank b above.0, free_blank bs above.1)
 
-free_feed : (bs : List ℕ) → AllAbove bs → Free is_line_feed bs
+pub free_feed : (bs : List ℕ) → AllAbove bs → Free is_line_feed bs
 free_feed [] above = tt
 free_feed (b ∷ bs) above = (not_feed b above.0, free_feed bs above.1)
 
@@ -72,7 +72,7 @@ free_return [] above = tt
 free_return (b ∷ bs) above = (not_return b above.0, free_return bs above.1)
 
 -- what holds of the bytes of words and of a space holds of the line
-free_line : (p : ℕ → Bool) → p 32 ≡ false → ((bs : List ℕ) → AllAbove bs → Free p bs) → (words : List (List ℕ)) → AreWords words → Free p (join_with_byte 32 words)
+pub free_line : (p : ℕ → Bool) → p 32 ≡ false → ((bs : List ℕ) → AllAbove bs → Free p bs) → (words : List (List ℕ)) → AreWords words → Free p (join_with_byte 32 words)
 free_line p space each [] are = tt
 free_line p space each (word ∷ []) are = each word are.1
 free_line p space each (word ∷ next ∷ words) are = free_append p word (32 ∷ join_with_byte 32 (next ∷ words)) (each word are.1) (space, free_line p space each (next ∷ words) are.2)
