@@ -2,6 +2,7 @@ ghost use Rattle.std.specs.Prelude.{◌≡◌, Some, IfOk, IfSome};
 ghost use Rattle.dr_guestfile.specs.FaultLines.{line_of};
 
 use crate::found::Found;
+use crate::hints::hint;
 use crate::line_texts::{line_text, plain};
 use crate::number_texts::{number_text, ring_text};
 use crate::scene::{Above, Scene, Seen, scene_at};
@@ -140,8 +141,8 @@ fn found_text(
     }
 }
 
-/// What is said of a fault in a line.
-fn scene_text(alloc: Global, scene: &Scene<'_>, why: FileFault) -> Result<Text, Memory> {
+/// What is said of a fault in a line, without a hint.
+fn bare_text(alloc: Global, scene: &Scene<'_>, why: FileFault) -> Result<Text, Memory> {
     match (why, scene.seen) {
         (FileFault::Magic { .. }, seen) => magic_text(alloc, seen),
         (FileFault::Line { .. }, _) => line_text(alloc, scene),
@@ -149,6 +150,15 @@ fn scene_text(alloc: Global, scene: &Scene<'_>, why: FileFault) -> Result<Text, 
         (_, Seen::Line(found)) => found_text(alloc, &scene.above, &found, why),
         _ => plain(alloc, unseen_text(why)),
     }
+}
+
+/// What is said of a fault in a line, with a hint where there is one.
+fn scene_text(alloc: Global, scene: &Scene<'_>, why: FileFault) -> Result<Text, Memory> {
+    let mut text = bare_text(alloc, scene, why)?;
+    if let Seen::Line(found) = scene.seen {
+        text.push_str(hint(&found))?;
+    }
+    Ok(text)
 }
 
 /// What is said of two slots that share a frame.

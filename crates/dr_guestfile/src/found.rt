@@ -13,8 +13,8 @@ pub struct Found<'a> {
     pub second: &'a [u8],
     pub third: &'a [u8],
     pub fourth: &'a [u8],
-    /// More words follow.
-    pub more: bool,
+    /// No line may have so many, so the words after it are not looked at.
+    pub fifth: &'a [u8],
 }
 
 /// The next word, or else an empty one.
@@ -76,8 +76,13 @@ impl<'a> Found<'a> {
             second: next_or_empty(&mut words),
             third: next_or_empty(&mut words),
             fourth: next_or_empty(&mut words),
-            more: !words.is_empty(),
+            fifth: next_or_empty(&mut words),
         }
+    }
+
+    /// The words, empty from the first on that is not there.
+    pub fn words(&self) -> [&'a [u8]; 5] {
+        [self.first, self.second, self.third, self.fourth, self.fifth]
     }
 
     /// The keyword that the line begins with.
@@ -97,7 +102,7 @@ impl<'a> Found<'a> {
         push_word(&mut line, self.second)?;
         push_word(&mut line, self.third)?;
         push_word(&mut line, self.fourth)?;
-        if self.more {
+        if !self.fifth.is_empty() {
             push_word(&mut line, b"..")?;
         }
         quoted(alloc, line.as_slice())

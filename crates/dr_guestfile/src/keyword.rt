@@ -91,6 +91,14 @@ impl Keyword {
     }
 }
 
+/// The word is a keyword but for capital letters in it.
+pub fn is_miscased(word: &[u8]) -> bool {
+    let is_keyword = KEYWORDS
+        .iter()
+        .any(|keyword| keyword.spelling().eq_ignore_ascii_case(word));
+    is_keyword && Keyword::of(word).is_none()
+}
+
 /// The keyword that a line begins with, if it does, and the words after the first.
 pub fn first_keyword(mut words: Words<'_>) -> (Option<Keyword>, Words<'_>)
     ensures first { result.0 ≡ first_of words.entry }

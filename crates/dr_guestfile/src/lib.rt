@@ -4,6 +4,7 @@
 
 mod explaining;
 mod found;
+mod hints;
 mod keyword;
 mod law;
 mod line_texts;

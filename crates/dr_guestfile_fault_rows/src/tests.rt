@@ -514,3 +514,67 @@ fn tells_of_other_faults_of_slots(rt: HostRuntime) -> Result<(), Fail> {
     }
     Ok(())
 }
+
+/// What can't be seen in a line is named, and what other files may have.
+#[test]
+fn tells_of_habits_of_other_files(rt: HostRuntime) -> Result<(), Fail> {
+    let rows = [
+        (
+            "\u{feff}dirtyguest 1\n",
+            "1: the file has to begin with the line `dirtyguest 1`, and begins with \
+             `???dirtyguest 1`; a byte order mark, which can't be seen, stands at its start",
+        ),
+        (
+            "dirtyguest\u{a0}1\n",
+            "1: the file has to begin with the line `dirtyguest 1`, and begins with \
+             `dirtyguest??1`; a no-break space is in it, and only spaces and tabs part words",
+        ),
+        (
+            "dirtyguest 1\rring 8\r",
+            "1: the file has to begin with the line `dirtyguest 1`, and begins with \
+             `dirtyguest 1?ring 8`; a carriage return is in it, which may stand only before a \
+             line feed",
+        ),
+        (
+            "DirtyGuest 1\n",
+            "1: the file has to begin with the line `dirtyguest 1`, and begins with \
+             `DirtyGuest 1`; keywords are written in small letters",
+        ),
+        (
+            "dirtyguest 1 # a guest\n",
+            "1: the file has to begin with the line `dirtyguest 1`, and begins with \
+             `dirtyguest 1 # a ..`; a comment needs a line of its own",
+        ),
+        (
+            "dirtyguest 1\nring 000000000000000000008\n",
+            "2: `ring` wants a power of two from 4 to 65536, and `000000000000000000008` is none; \
+             a number has at most 20 digits",
+        ),
+    ];
+    for (file, text) in rows {
+        let told = told(rt.alloc(), file)?;
+        assert_eq!(rt; told.as_str(), text);
+    }
+    let rows = [
+        (
+            "slot 0 0 1 # memory\n",
+            "9: expected `slot ID BASE PAGES` here, and found `slot 0 0 1 ..`; \
+             a comment needs a line of its own",
+        ),
+        (
+            "slot 0 0 000000000000000000001\n",
+            "9: `slot` wants a number of PAGES from 1 to 16384, and `000000000000000000001` is \
+             none; a number has at most 20 digits",
+        ),
+        (
+            "slot 0 0 1\nVCPU\n",
+            "10: expected `slot ID BASE PAGES` or `vcpu` here, and found `VCPU`; \
+             keywords are written in small letters",
+        ),
+    ];
+    for (lines, text) in rows {
+        let told = told_below(rt.alloc(), lines)?;
+        assert_eq!(rt; told.as_str(), text);
+    }
+    Ok(())
+}

@@ -13,11 +13,11 @@ use std::marker::Model;
 
 /// A report and up to three named files as the ports of an outlet. It tells of no port.
 ///
-/// All files are created at the first put on any port, and none before. Where two ports can't be had
-/// together none is created, and each put fails. Bytes of the stream and of the image wait in a
-/// buffer of 64 KiB each, and are written before a put on another port that has a writer. A port
-/// that failed once, at its creation, at a write or at a flush, fails from then on. Contracts see
-/// the count of faults.
+/// All files are created at the first put on any port, and none before. Where a port can't be had
+/// beside the others none is created, and each put fails. Bytes of the stream and of the image wait
+/// in a buffer of 64 KiB each, and are written before a put on another port that has a writer. A
+/// port that failed once, at its creation, at a write or at a flush, fails from then on. Contracts
+/// see the count of faults.
 #[derive(Drop)]
 pub struct FilePorts<W: Write + Drop, O: Opener> {
     ends: PortEnds<W, O::Writer>,

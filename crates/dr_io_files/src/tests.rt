@@ -611,24 +611,24 @@ fn link_paths(alloc: Global, stream: &str, journal: &str) -> Result<PortPaths, F
     })
 }
 
-/// Stream and journal at these paths have one owner each, or the journal's fault tells whose its
-/// file is.
-fn owner_of(rt: &HostRuntime, stream: &str, journal: &str) -> Result<Option<Owner>, Fail> {
+/// Whose the file of a port is, where that is the first fault.
+fn owner_at(fault: Option<PortFault>, at: Port) -> Option<Owner> {
+    let PortFault { port, cause } = fault?;
+    match cause {
+        PortCause::Owned(owner) if port == at => Some(owner),
+        _ => None,
+    }
+}
+
+/// Whose the journal's file is besides, where stream and journal have these paths.
+fn journal_owner(rt: &HostRuntime, stream: &str, journal: &str) -> Result<Option<Owner>, Fail> {
     make_links(rt)?;
     let paths = link_paths(rt.alloc(), stream, journal)?;
-    let owned = OwnedFiles::new(None, FileIdentity::of_path(rt, "dr_io_files_links/report"));
-    let mut ports = FilePorts::new(rt.alloc(), io::sink(), PathOpener::new(rt, paths, owned));
+    let opener = PathOpener::new(rt, paths, OwnedFiles::new(None, None));
+    let mut ports = FilePorts::new(rt.alloc(), io::sink(), opener);
     let _put = put_on(&mut ports, Port::Stream, "a");
     let _put = put_on(&mut ports, Port::Journal, "b");
-    match ports.finish() {
-        Some(
-            PortFault {
-                port: Port::Journal,
-                cause: PortCause::Owned(owner),
-            },
-        ) => Ok(Some(owner)),
-        _ => Ok(None),
-    }
+    Ok(owner_at(ports.finish(), Port::Journal))
 }
 
 #[test]
@@ -644,15 +644,27 @@ fn two_ports_never_have_one_file(rt: HostRuntime) -> Result<(), Fail> {
         ("dangling", "absent", stream, "earlier"),
     ];
     for (first, second, owner, kept) in rows {
-        assert_eq!(rt;
-            owner_of(&rt, first, second)?,
-            owner,
-            "{first} and {second}"
-        );
+        let found = journal_owner(&rt, first, second)?;
+        assert_eq!(rt; found, owner, "{first} and {second}");
         assert!(rt; has_text(&rt, LINK, kept), "{first} and {second}");
     }
     assert!(rt; fs::remove_dir_all(&rt, "dr_io_files_links").is_ok());
     Ok(())
+}
+
+const INPUT: &str = "dr_io_files_input/guest";
+
+/// Whose the image's file is besides, where that is the guest file and these files have owners.
+fn image_owner(rt: &HostRuntime, owned: OwnedFiles) -> Result<Option<Owner>, Fail> {
+    let paths = PortPaths {
+        stream: None,
+        image: Some(String::from_str(rt.alloc(), INPUT)?),
+        journal: None,
+    };
+    let opener = PathOpener::new(rt, paths, owned);
+    let mut ports = FilePorts::new(rt.alloc(), io::sink(), opener);
+    let _put = put_on(&mut ports, Port::Report, "a");
+    Ok(owner_at(ports.finish(), Port::Image))
 }
 
 #[test]
@@ -660,25 +672,16 @@ fn no_port_has_the_file_of_the_input(rt: HostRuntime) -> Result<(), Fail> {
     let folder = "dr_io_files_input";
     let _ = fs::remove_dir_all(&rt, folder);
     fs::create_dir(&rt, folder)?;
-    fs::write(&rt, "dr_io_files_input/guest", "guest")?;
-    let input = FileIdentity::of_path(&rt, "dr_io_files_input/guest");
-    for (owned, owner) in [
-        (OwnedFiles::new(input, None), Owner::Input),
-        (OwnedFiles::new(None, input), Owner::Port(Port::Report)),
-    ] {
-        let paths = PortPaths {
-            stream: None,
-            image: Some(String::from_str(rt.alloc(), "dr_io_files_input/guest")?),
-            journal: None,
-        };
-        let mut ports = FilePorts::new(rt.alloc(), io::sink(), PathOpener::new(&rt, paths, owned));
-        assert_eq!(rt; put_on(&mut ports, Port::Report, "a"), PutTurn::Failed);
-        let fault = ports.finish();
-        assert!(rt;
-            matches!(fault, Some(PortFault { port: Port::Image, cause: PortCause::Owned(is) }) if is == owner)
-        );
-        assert!(rt; has_text(&rt, "dr_io_files_input/guest", "guest"));
-    }
+    fs::write(&rt, INPUT, "guest")?;
+    let guest = FileIdentity::of_path(&rt, INPUT);
+    let input = image_owner(&rt, OwnedFiles::new(guest, None))?;
+    assert_eq!(rt; input, Some(Owner::Input));
+    let report = image_owner(&rt, OwnedFiles::new(None, guest))?;
+    assert_eq!(rt; report, Some(Owner::Port(Port::Report)));
+    assert!(rt; has_text(&rt, INPUT, "guest"));
+    let free = image_owner(&rt, OwnedFiles::new(None, None))?;
+    assert_eq!(rt; free, None);
+    assert!(rt; has_text(&rt, INPUT, ""));
     assert!(rt; fs::remove_dir_all(&rt, folder).is_ok());
     Ok(())
 }

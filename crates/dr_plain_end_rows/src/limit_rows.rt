@@ -1,5 +1,5 @@
-//! Guests at the limits of a guest file: as many vCPUs, slots and pages as there may be, the smallest
-//! and the largest rings, and quotas from none to the greatest.
+//! Guests at the limits of a guest file: as many vCPUs, slots and pages as there may be, the
+//! smallest and the largest rings, and quotas from none to the greatest.
 
 use dr_io::{FixedClock, PortFiles};
 use dr_plain::plain_main;
