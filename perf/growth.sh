@@ -33,7 +33,7 @@ guest() {
 # Counts the events of a run by their first words, as the lines that `count` reads.
 events_of_run() {
     "$program" step --journal "$folder/journal" < "$folder/input" > "$folder/report"
-    awk '/^journal$/ { told = 1; next } /^end$/ { exit } told { events++; of[$1]++ }
+    awk '/^journal$/ { told = 1; next } told && /^end$/ { exit } told { events++; of[$1]++ }
         END {
             print "events: " events
             print "ops executed: " of["r"] + of["w"] + of["f"] + of["l"] + of["h"]

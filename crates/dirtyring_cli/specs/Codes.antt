@@ -18,7 +18,7 @@ code_of (IllegalJournal event rule) = 7
 code_of (BadStream why) = 8
 code_of TooLong = 9
 
--- where what waited behind the call can't be written, the code is that of a failed write, unless
+-- where what waited after the call can't be written, the code is that of a failed write, unless
 -- nothing was put
 abbrev pub code_unwritten : Status → ℕ
 code_unwritten Done = 4

@@ -6,11 +6,11 @@ pub record Kept (S : Type 0) : Type 0 where
   pub source : S
   pub bytes : Option (List ℕ)
 
--- the bytes with these behind them
+-- the bytes with these after them
 abbrev pub IsLonger : Option (List ℕ) → List ℕ → List ℕ → Type 0
 IsLonger old more new = (before : List ℕ) × (old ≡ Some before) × (new ≡ before ++ more)
 
--- what was kept, and behind it what is left, where both are told
+-- what was kept, and after it what is left, where both are told
 abbrev pub text_of : Option (List ℕ) → Option (List ℕ) → Option (List ℕ)
 text_of (Some kept) (Some remaining) = Some (kept ++ remaining)
 text_of kept remaining = None

@@ -28,7 +28,7 @@ pub fn exit_code(status: Status) -> u8
     }
 }
 
-/// The exit code of a status, by whether what waited for the ports behind the call could be
+/// The exit code of a status, by whether what waited for the ports after the call could be
 /// written.
 pub fn last_code(status: Status, is_written: bool) -> u8
     ensures { result ≡ (if is_written then code_of status else code_unwritten status) }

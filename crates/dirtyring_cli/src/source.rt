@@ -94,7 +94,7 @@ impl<S: Source + Drop> KeptSource<S> {
         }
     }
 
-    /// Keeps these bytes behind the others.
+    /// Keeps these bytes after the others.
     fn keep(&mut self, more: &[u8])
         ensures source { self.new.source ≡ self.old.source }
         ensures longer { IfSome self.new.bytes (IsLonger self.old.bytes more.now) }
@@ -103,7 +103,7 @@ impl<S: Source + Drop> KeptSource<S> {
     }
 }
 
-/// The bytes with these behind them; `None` where memory is refused, or was before.
+/// The bytes with these after them; `None` where memory is refused, or was before.
 fn longer(kept: Option<Bytes>, more: &[u8]) -> Option<Bytes>
     ensures { IfSome result (IsLonger kept more.now) }
 {

@@ -63,7 +63,7 @@ fn refusal(alloc: Global, file: &str) -> Result<Option<Status>, AllocError> {
 
 #[test]
 fn keeps_a_refused_file(rt: HostRuntime) -> Result<(), Fail> {
-    // What stands behind the fault is kept too.
+    // What comes after the fault is kept too.
     let rows = [
         (
             "dirtyguest 1\nring 6\nreserve 2\n",

@@ -7,7 +7,7 @@ use Rattle.dr_io_files.specs.declared.pieces.Pieces.{Pieces}
 use Rattle.dr_io_files.specs.declared.port_end.PortEnd.{PortEnd}
 use Rattle.dr_io_files.specs.declared.port_end.PortEnd.TheVariants.{Discarded, Open, Broken}
 
--- what the writer holds, where that is known, and behind it what waits
+-- what the writer holds, where that is known, and after it what waits
 abbrev pub held : {T : Type 0} → (T → Option (List ℕ)) → Pieces T → Option (List ℕ)
 held contents p = append_known (contents p.writer) p.waiting.items
 

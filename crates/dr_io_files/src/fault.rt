@@ -1,4 +1,4 @@
-ghost use Rattle.std.specs.Prelude.{◌≡◌, is_ok};
+ghost use Rattle.std.specs.Prelude.{◌≡◌, Err, IfErr, is_ok};
 
 use dr_io::Port;
 use std::io;
@@ -22,6 +22,11 @@ pub enum PortCause {
 }
 
 impl From<io::Error> for PortCause {
+    ghost use Rattle.std.specs.Prelude.{◌≡◌};
+    ghost use Rattle.dr_io_files.specs.declared.fault.PortCause.TheVariants.{System};
+
+    ghost from_gives = { λ why cause. cause ≡ System why };
+
     fn from(why: io::Error) -> PortCause {
         PortCause::System(why)
     }
@@ -38,6 +43,7 @@ impl PortFault {
     /// What was done at a port, with its name where that failed.
     pub fn at(port: Port, done: Result<(), PortCause>) -> Result<(), PortFault>
         ensures ok { is_ok result ≡ is_ok done }
+        ensures fault { IfErr result (λ fault. (fault.port ≡ port) × (done ≡ Err fault.cause)) }
     {
         match done {
             Ok(()) => Ok(()),

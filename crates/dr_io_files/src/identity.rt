@@ -1,3 +1,6 @@
+ghost use Rattle.std.specs.Prelude.{◌≡◌, ◌≢◌, None, Some, IfSome};
+ghost use Rattle.dr_io_files.specs.Owners.{file_of};
+
 use crate::fault::Owner;
 use dr_io::Port;
 use std::fs;
@@ -31,17 +34,23 @@ impl FileIdentity {
 #[derive(Clone, Copy, Debug)]
 pub struct OwnedFiles {
     /// The file that the input is read from.
-    input: Option<FileIdentity>,
+    pub input: Option<FileIdentity>,
     /// The file that standard output goes to.
-    report: Option<FileIdentity>,
-    stream: Option<FileIdentity>,
-    image: Option<FileIdentity>,
-    journal: Option<FileIdentity>,
+    pub report: Option<FileIdentity>,
+    pub stream: Option<FileIdentity>,
+    pub image: Option<FileIdentity>,
+    pub journal: Option<FileIdentity>,
 }
 
 impl OwnedFiles {
     /// The input and the report have these, and no other port has a file yet.
-    pub fn new(input: Option<FileIdentity>, report: Option<FileIdentity>) -> OwnedFiles {
+    pub fn new(input: Option<FileIdentity>, report: Option<FileIdentity>) -> OwnedFiles
+        ensures input { file_of Owner.Input result ≡ input }
+        ensures report { file_of (Owner.Port Port.Report) result ≡ report }
+        ensures stream { file_of (Owner.Port Port.Stream) result ≡ None }
+        ensures image { file_of (Owner.Port Port.Image) result ≡ None }
+        ensures journal { file_of (Owner.Port Port.Journal) result ≡ None }
+    {
         OwnedFiles {
             input,
             report,
@@ -51,30 +60,33 @@ impl OwnedFiles {
         }
     }
 
-    fn of(&self, port: Port) -> Option<FileIdentity> {
-        match port {
-            Port::Report => self.report,
-            Port::Stream => self.stream,
-            Port::Image => self.image,
-            Port::Journal => self.journal,
-        }
-    }
-
     /// Who has this file.
-    pub fn owner(&self, file: FileIdentity) -> Option<Owner> {
-        if self.input == Some(file) {
-            return Some(Owner::Input);
+    pub fn owner(&self, file: FileIdentity) -> Option<Owner>
+        ensures has { IfSome result (λ owner. file_of owner self.now ≡ Some file) }
+        ensures none { result ≡ None → (owner : Owner) → file_of owner self.now ≢ Some file }
+    {
+        let wanted = Some(file);
+        if self.input == wanted {
+            Some(Owner::Input)
+        } else if self.report == wanted {
+            Some(Owner::Port(Port::Report))
+        } else if self.stream == wanted {
+            Some(Owner::Port(Port::Stream))
+        } else if self.image == wanted {
+            Some(Owner::Port(Port::Image))
+        } else if self.journal == wanted {
+            Some(Owner::Port(Port::Journal))
+        } else {
+            None
         }
-        for port in [Port::Report, Port::Stream, Port::Image, Port::Journal] {
-            if self.of(port) == Some(file) {
-                return Some(Owner::Port(port));
-            }
-        }
-        None
     }
 
     /// The port has this file from now on.
-    pub fn take(&mut self, port: Port, file: Option<FileIdentity>) {
+    pub fn take(&mut self, port: Port, file: Option<FileIdentity>)
+        ensures taken { file_of (Owner.Port port) self.new ≡ file }
+        ensures others { (owner : Owner) → owner ≢ Owner.Port port
+            → file_of owner self.new ≡ file_of owner self.old }
+    {
         match port {
             Port::Report => self.report = file,
             Port::Stream => self.stream = file,

@@ -1,7 +1,7 @@
 ghost use Rattle.std.specs.Prelude.{◌≡◌, option_map};
 ghost use Rattle.dr_io_files.specs.Paths.{path_of};
 
-use crate::fault::{PortCause, PortFault};
+use crate::fault::{Owner, PortCause, PortFault};
 use crate::identity::{FileIdentity, OwnedFiles};
 use dr_io::Port;
 use std::fs;
@@ -104,6 +104,10 @@ impl<R: Files + Drop> Opener for PathOpener<R> {
 
     fn check(&self) -> Result<(), PortFault> {
         let mut owned = self.owned;
+        if owned.report.is_some() && owned.report == owned.input {
+            let cause = PortCause::Owned(Owner::Input);
+            return PortFault::at(Port::Report, Err(cause));
+        }
         for port in [Port::Stream, Port::Image, Port::Journal] {
             PortFault::at(port, self.take(&mut owned, port))?;
         }

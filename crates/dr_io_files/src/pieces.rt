@@ -41,7 +41,7 @@ impl<W: Write + Drop> Pieces<W> {
         bytes.len() <= self.waiting.capacity() - self.waiting.len()
     }
 
-    /// Adds bytes. Those that don't fit are written behind all that waited.
+    /// Adds bytes. Those that don't fit are written after all that waited.
     pub fn add(&mut self, bytes: &[u8]) -> io::Result<()>
         ensures { OnOk result
             (Appends (held W.contents self.old) (held W.contents self.new) bytes.now) }

@@ -74,7 +74,7 @@ fn has_bytes(record: &Shared, port: Port, bytes: &[u8]) -> bool {
 enum Plan {
     Unnamed,
     Refused,
-    /// Takes at most `piece` bytes a write, and fails past so many writes.
+    /// Takes at most `piece` bytes a write, and fails after this many writes.
     Takes { piece: usize, writes: u32 },
 }
 
@@ -409,7 +409,7 @@ fn a_failed_flush_fails_that_put(rt: HostRuntime) -> Result<(), Fail> {
     Ok(())
 }
 
-/// A file that fails past so many writes, and takes two bytes a write.
+/// A file that fails after this many writes, and takes two bytes a write.
 fn pairs(writes: u32) -> Plan {
     Takes { piece: 2, writes }
 }
@@ -654,8 +654,8 @@ fn two_ports_never_have_one_file(rt: HostRuntime) -> Result<(), Fail> {
 
 const INPUT: &str = "dr_io_files_input/guest";
 
-/// Whose the image's file is besides, where that is the guest file and these files have owners.
-fn image_owner(rt: &HostRuntime, owned: OwnedFiles) -> Result<Option<Owner>, Fail> {
+/// The first fault, where the image's file is the guest file and these files have owners.
+fn image_fault(rt: &HostRuntime, owned: OwnedFiles) -> Result<Option<PortFault>, Fail> {
     let paths = PortPaths {
         stream: None,
         image: Some(String::from_str(rt.alloc(), INPUT)?),
@@ -664,7 +664,7 @@ fn image_owner(rt: &HostRuntime, owned: OwnedFiles) -> Result<Option<Owner>, Fai
     let opener = PathOpener::new(rt, paths, owned);
     let mut ports = FilePorts::new(rt.alloc(), io::sink(), opener);
     let _put = put_on(&mut ports, Port::Report, "a");
-    Ok(owner_at(ports.finish(), Port::Image))
+    Ok(ports.finish())
 }
 
 #[test]
@@ -674,13 +674,18 @@ fn no_port_has_the_file_of_the_input(rt: HostRuntime) -> Result<(), Fail> {
     fs::create_dir(&rt, folder)?;
     fs::write(&rt, INPUT, "guest")?;
     let guest = FileIdentity::of_path(&rt, INPUT);
-    let input = image_owner(&rt, OwnedFiles::new(guest, None))?;
-    assert_eq!(rt; input, Some(Owner::Input));
-    let report = image_owner(&rt, OwnedFiles::new(None, guest))?;
-    assert_eq!(rt; report, Some(Owner::Port(Port::Report)));
+    let input = image_fault(&rt, OwnedFiles::new(guest, None))?;
+    assert_eq!(rt; owner_at(input, Port::Image), Some(Owner::Input));
+    let report = image_fault(&rt, OwnedFiles::new(None, guest))?;
+    assert_eq!(rt;
+        owner_at(report, Port::Image),
+        Some(Owner::Port(Port::Report))
+    );
+    let both = image_fault(&rt, OwnedFiles::new(guest, guest))?;
+    assert_eq!(rt; owner_at(both, Port::Report), Some(Owner::Input));
     assert!(rt; has_text(&rt, INPUT, "guest"));
-    let free = image_owner(&rt, OwnedFiles::new(None, None))?;
-    assert_eq!(rt; free, None);
+    let free = image_fault(&rt, OwnedFiles::new(None, None))?;
+    assert!(rt; free.is_none());
     assert!(rt; has_text(&rt, INPUT, ""));
     assert!(rt; fs::remove_dir_all(&rt, folder).is_ok());
     Ok(())
