@@ -90,9 +90,9 @@ fn one_more_text(alloc: Global, most: usize, what: &str) -> Result<Text, Memory>
 }
 
 /// What is said where the scripts have too many ops.
-fn ops_text(alloc: Global) -> Result<Text, Memory> {
+fn ops_text(alloc: Global, ops: u64) -> Result<Text, Memory> {
     let text = format!(in alloc;
-        "all scripts together may have {MOST_OPS} ops, each repetition counted, and there are more up to here"
+        "all scripts together have {ops} ops up to here, each repetition counted, and at most {MOST_OPS} may be"
     )?;
     Ok(Text::from_string(text))
 }
@@ -104,7 +104,7 @@ fn too_large_text(alloc: Global, what: What, scene: &Scene<'_>) -> Result<Text, 
         What::Pages => pages_text(alloc, scene.pages()),
         What::Copies => copies_text(alloc, scene.pages(), scene.above.rounds.unwrap_or(0)),
         What::Vcpus => one_more_text(alloc, MOST_VCPUS, "vCPUs"),
-        What::Ops => ops_text(alloc),
+        What::Ops => ops_text(alloc, scene.ops()),
     }
 }
 

@@ -9,6 +9,7 @@ mod keyword;
 mod law;
 mod line_texts;
 mod number_texts;
+mod op_count;
 mod ops;
 mod reading;
 mod scene;

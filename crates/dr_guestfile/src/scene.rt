@@ -1,5 +1,6 @@
 use crate::found::Found;
 use crate::keyword::Keyword;
+use crate::op_count::OpCount;
 use dr_guestfile_lines::{Line, Lines, decimal, number};
 use dr_types::limits::{GREATEST_SLOT_ID, MOST_SLOTS};
 use dr_types::{FileFault, Memory, SlotRow};
@@ -53,6 +54,8 @@ pub struct Above<'a> {
     pub pages: u64,
     /// The first slot lines, as many as there may be.
     pub slots: Vec<SlotLine<'a>>,
+    /// The ops of all scripts.
+    pub ops: OpCount,
 }
 
 /// A line, and what the lines above it say.
@@ -130,6 +133,7 @@ impl<'a> Above<'a> {
             rounds: None,
             pages: 0,
             slots: Vec::new(alloc),
+            ops: OpCount::none(),
         }
     }
 
@@ -155,6 +159,7 @@ impl<'a> Above<'a> {
             Some(Keyword::Slot) => self.take_slot(no, found)?,
             _ => {}
         }
+        self.ops = self.ops.after(&found);
         self.spot = self.spot.after(no, keyword);
         Ok(())
     }
@@ -174,6 +179,14 @@ impl<'a> Scene<'a> {
         match slot_of(&found) {
             Some(slot) => self.above.pages.saturating_add(u64::from(slot.pages)),
             None => self.above.pages,
+        }
+    }
+
+    /// The ops of all scripts, that of this line too, or those that it closes.
+    pub fn ops(&self) -> u64 {
+        match self.seen {
+            Seen::Line(found) => self.above.ops.after(&found).closed(),
+            _ => self.above.ops.closed(),
         }
     }
 }

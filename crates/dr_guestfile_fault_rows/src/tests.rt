@@ -316,7 +316,11 @@ fn tells_of_repeats(rt: HostRuntime) -> Result<(), Fail> {
         ),
         (
             "rep 200000\na 0\nend\nhalt\n",
-            "15: all scripts together may have 200000 ops, each repetition counted, and there are more up to here",
+            "15: all scripts together have 200001 ops up to here, each repetition counted, and at most 200000 may be",
+        ),
+        (
+            "rep 100001\na 0\na 0\nend\n",
+            "15: all scripts together have 200002 ops up to here, each repetition counted, and at most 200000 may be",
         ),
     ];
     for (lines, wanted) in rows {
