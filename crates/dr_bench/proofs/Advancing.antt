@@ -141,8 +141,10 @@ rose_from first before now le rose = omega arith
 
 -- a first part of it was put, and the run is given up
 pub keeps_failed : (guest : Guest) (ports : Ports) (first now : ℕ) (m n o : MachineView) (s t : Sending) (failed stop : Bool) (a : Advance) (opens : Bool) (pages : ℕ) (before bytes : List ℕ) (result : PutTurn) → BenchKeeps guest ports first (bench_of m s failed) × IsTracked m.past s.pages stop → failed ≡ false → result ≡ Failed → Advanced guest now m n s t stop a opens pages before bytes result
-    → o.past ≡ n.past → o.over ≡ true → BenchKeeps guest ports first (bench_of o t true) × IsTracked o.past t.pages (cond (is_stopping a) true stop)
-keeps_failed guest ports first now m n o s t failed stop a opens pages before bytes result kept fine fails it same over =
+    → o ≡ record n { over = true } → BenchKeeps guest ports first (bench_of o t true) × IsTracked o.past t.pages (cond (is_stopping a) true stop)
+keeps_failed guest ports first now m n o s t failed stop a opens pages before bytes result kept fine fails it is =
+    let same : o.past ≡ n.past = ap (λ (x : MachineView). x.past) is in
+    let over : o.over ≡ true = ap (λ (x : MachineView). x.over) is in
     let put : List ℕ = record_bytes a opens pages bytes s.pages in
     let was : List ℕ = stream_of guest m.past in
     let some = it.sends.puts.failed fails in

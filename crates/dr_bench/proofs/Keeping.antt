@@ -55,7 +55,9 @@ keeps_both guest ports before m n s failed stop kept quiet same =
     (keeps_on guest ports before m n s failed kept.0 quiet same, tracks_on guest m.past n.past s.pages stop kept.1 quiet)
 
 -- where the run is given up
-pub gives_up : (guest : Guest) (ports : Ports) (before : ℕ) (m n : MachineView) (s : Sending) (failed stop : Bool) → BenchKeeps guest ports before (bench_of m s failed) × IsTracked m.past s.pages stop → n.past ≡ m.past → n.over ≡ true → BenchKeeps guest ports before (bench_of n s failed) × IsTracked n.past s.pages stop
-gives_up guest ports before m n s failed stop kept same over =
+pub gives_up : (guest : Guest) (ports : Ports) (before : ℕ) (m n : MachineView) (s : Sending) (failed stop : Bool) → BenchKeeps guest ports before (bench_of m s failed) × IsTracked m.past s.pages stop → n ≡ record m { over = true } → BenchKeeps guest ports before (bench_of n s failed) × IsTracked n.past s.pages stop
+gives_up guest ports before m n s failed stop kept is =
+    let same : n.past ≡ m.past = ap (λ (x : MachineView). x.past) is in
+    let over : n.over ≡ true = ap (λ (x : MachineView). x.over) is in
     let quiet : IsQuiet guest m.past n.past = quiet_to guest m.past m.past n.past (quiet_still guest m.past) same in
     (keeps_over guest ports before m n s failed kept.0 quiet (λ was. over), tracks_on guest m.past n.past s.pages stop kept.1 quiet)

@@ -35,6 +35,10 @@ bench_of m s failed = record {
   faults = s.faults;
 }
 
+-- its machine
+abbrev pub machine_of : BenchView → machine.MachineView
+machine_of it = record { past = it.past; seats = it.seats; over = it.over }
+
 -- from these ports on the Stream port grew by a first part of these bytes
 pub record IsPartOf (ports : Ports) (bytes : List ℕ) (told : Ports) : Type 0 where
   pub length : ℕ
@@ -50,8 +54,9 @@ pub record BenchKeeps (guest : Guest) (ports : Ports) (before : ℕ) (it : Bench
   pub risen : it.failed ≡ true → Rose before it.faults
   pub stopped : it.failed ≡ true → it.over ≡ true
 
--- nothing was put
-pub record SameOutlet (old new : BenchView) : Type 0 where
+-- nothing was put, and the run was not given up
+pub record SameStanding (old new : BenchView) : Type 0 where
+  pub over : new.over ≡ old.over
   pub failed : new.failed ≡ old.failed
   pub told : new.told ≡ old.told
   pub faults : new.faults ≡ old.faults

@@ -26,7 +26,7 @@ note_here [] rest (suc u) n left = absurd cc
 note_here (m ∷ seen) rest zero n left = cc
 note_here (m ∷ seen) rest (suc u) n left = note_here seen rest u n left
 
--- .. and the others are left behind it
+-- .. and the others are left after it
 pub notes_left : (seen rest : List NoteView) (u : ℕ) (n : NoteView) → n ∷ rest ≡ drop u seen → rest ≡ drop (u + 1) seen
 notes_left [] rest zero n left = absurd cc
 notes_left [] rest (suc u) n left = absurd cc

@@ -103,7 +103,7 @@ counts s p is =
     let rest : length p.entries ≡ length s.harvested - p.handed = ap length is.entries ∙ length-drop p.handed s.harvested in
     omega (arith, rest, within)
 
--- what was harvested and put behind the pending entries is pending
+-- what was harvested and put after the pending entries is pending
 pub still_pending : (size : ℕ) (seen : Option NoteView) (done : Bool) (old s t : UserView) (p q : PendingView) → s ≡ learnt seen old → IsPending old p → old.ring.words ≡ 1 + 2 * size → Fills size p q done s t → IsPending t q
 still_pending size seen done old s t p q is pending words fills =
     let harvested : s.harvested ≡ old.harvested = ap (λ (u : UserView). u.harvested) is ∙ learnt_harvested seen old in

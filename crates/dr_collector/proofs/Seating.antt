@@ -32,7 +32,7 @@ get_set [] v x y at = absurd cc
 get_set (z ∷ zs) zero x y at = refl
 get_set (z ∷ zs) (suc v) x y at = get_set zs v x y at
 
--- one harvest more, behind others
+-- one harvest more, after others
 pub harvested_next : (size : ℕ) (s : UserView) (more : List Entry) (e : Entry) → all_harvested size s (more ++ e ∷ []) ≡ user_harvested size (all_harvested size s more) e
 harvested_next size s [] e = refl
 harvested_next size s (d ∷ more) e = harvested_next size (user_harvested size s d) more e
@@ -51,7 +51,7 @@ pub known_stays : (size : ℕ) (s : UserView) (more : List Entry) → (all_harve
 known_stays size s [] = refl
 known_stays size s (e ∷ more) = known_stays size (user_harvested size s e) more
 
--- what is there behind a write at v was written there, or stood elsewhere before
+-- what is there after a write at v was written there, or stood elsewhere before
 pub set_at : {X : Type 0} (xs : List X) (v w : ℕ) (t x : X) → slice_get (set xs v t) w ≡ Some x → ((w ≡ v) × (x ≡ t)) ⊎ ((w ≢ v) × (slice_get xs w ≡ Some x))
 set_at [] v w t x h = absurd cc
 set_at (y ∷ ys) zero zero t x h = inl (refl, cc)

@@ -42,7 +42,7 @@ pub record IsKept (size : ℕ) (seen : Option NoteView) (c d : Collected) : Type
   pub harvests : Harvests size (learnt seen c.seat) d.seat
 
 -- What harvests of all vCPUs leave that are refused memory at one of them: before it batches were
--- made, and are lost. At it nothing went out, and all that was harvested is kept. Behind it nothing
+-- made, and are lost. At it nothing went out, and all that was harvested is kept. After it nothing
 -- was done.
 pub record IsCutOff (size : ℕ) (seen : List NoteView) (old new : List Collected) : Type 0 where
   pub refused : ℕ

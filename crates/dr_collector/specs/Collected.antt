@@ -32,6 +32,6 @@ all_harvested size s (e ∷ more) = all_harvested size (user_harvested size s e)
 abbrev pub Harvests : ℕ → UserView → UserView → Type 0
 Harvests size s t = (more : List Entry) × (t ≡ all_harvested size s more)
 
--- .. and by one load behind them, of an entry word that wasn't dirty
+-- .. and by one load after them, of an entry word that wasn't dirty
 abbrev pub Stops : ℕ → UserView → UserView → Type 0
 Stops size s t = (more : List Entry) × LoadsNoDirty size (all_harvested size s more) t

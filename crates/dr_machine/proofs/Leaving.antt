@@ -12,7 +12,7 @@ use Rattle.dr_turns.specs.Buffers.{all_pushed}
 use Rattle.dr_turns.specs.Turns.{exit_reason, after_exit}
 use Rattle.dr_turns_law.proofs.Leaving.{exit_follows}
 
--- behind its whole buffer it leaves by the rules
+-- after its whole buffer it leaves by the rules
 pub leaves_here : (guest : Guest) (past now : List Event) (v : ℕ) (why : Why) → v < vcpu_count guest → IsLegalSoFar guest past → AtRest guest past → in_guest v past ≡ true → now ≡ all_pushed v past → why ≡ exit_reason guest v now → MayFollow guest now (Exited v why)
 leaves_here guest past now v why lt legal rest inside is reason =
     rw (reason, is) (exit_follows guest past v lt legal rest inside)

@@ -1,2 +1,4 @@
 pub mod Views
 pub mod Tied
+pub mod Answers
+pub mod Deposited

@@ -16,7 +16,7 @@ use dr_ring_set::{KernelSeats, Rings};
 use dr_slots::Slots;
 use dr_types::Why;
 
-/// A vCPU leaves the guest, behind its whole buffer.
+/// A vCPU leaves the guest, after its whole buffer.
 pub fn leave<N: Name>(
     log: &mut Log,
     seats: &mut KernelSeats<N>,

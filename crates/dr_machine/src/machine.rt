@@ -1,29 +1,24 @@
-ghost use Rattle.std.specs.Prelude.{◌≡◌, ◌<◌, ◌≤◌, ◌+◌, [], ◌∷◌, ℕ, true, false, map, length};
-ghost use Rattle.std.specs.Prelude.{nat_lt};
-ghost use Rattle.std.specs.Prelude.{slice_get, Ok, Err, Some, None, IfOk, IfErr, OnOk, OnErr};
-ghost use Rattle.std.specs.Prelude.{IfSome};
-ghost use Rattle.std.specs.List.{list_any};
+ghost use Rattle.std.specs.Prelude.{◌≡◌, ◌<◌, ◌+◌, [], true, false, map, length};
+ghost use Rattle.std.specs.Prelude.{Ok, Err, Some, None, IfOk, OnOk, OnErr};
 ghost use Rattle.dr_types.specs.Pages.{page_count};
 ghost use Rattle.dr_types.specs.Scripts.{operation, vcpu_count};
 ghost use Rattle.dr_types.specs.Validity.{IsValid};
-ghost use Rattle.dr_history.specs.declared.event.Event.{Event};
 ghost use Rattle.dr_history.specs.Entries.{resets};
 ghost use Rattle.dr_history.specs.Execution.{ops};
 ghost use Rattle.dr_history.specs.Legality.{IsLegal};
 ghost use Rattle.dr_history.specs.Memory.{page_bytes};
-ghost use Rattle.dr_history.specs.Rules.{deposits_entry};
-ghost use Rattle.dr_history.specs.Vcpus.{in_guest};
-ghost use Rattle.dr_ring.specs.Seats.{kernel_note, new_kernel};
-ghost use Rattle.dr_ring_set.specs.Seated.{HasAt};
+ghost use Rattle.dr_ring.specs.Seats.{new_kernel};
 ghost use Rattle.dr_seat_law.specs.Seats.{AreSeats};
 ghost use Rattle.dr_turns.specs.Between.{AtTurnsEnd, MayTurn};
-ghost use Rattle.dr_turns.specs.Buffers.{all_pushed};
-ghost use Rattle.dr_turns.specs.Due.{advanced, run_end, some_closing};
-ghost use Rattle.dr_turns.specs.Turns.{refusal, op_step, after_op, exit_reason, after_exit};
+ghost use Rattle.dr_turns.specs.Due.{advanced, run_end};
+ghost use Rattle.dr_turns.specs.Turns.{op_step, after_op};
 ghost use Rattle.dr_turns.specs.Turns.{all_out};
-ghost use Rattle.dr_turns_law.specs.Deposits.{first_twice, next_deposited, HasGap};
+ghost use Rattle.dr_turns_law.specs.Deposits.{first_twice};
 ghost use Rattle.dr_log_turns.specs.Copies.{copied_into};
 ghost use Rattle.dr_log_turns.specs.Throttled.{last_throttle};
+ghost use Rattle.dr_machine.specs.Answers.{ExitTurn, FlushTurn, IsNoteOf, OpTurn, ResetTurn};
+ghost use Rattle.dr_machine.specs.Answers.{TellsDeposited};
+ghost use Rattle.dr_machine.specs.Deposited.{DepositTurn};
 ghost use Rattle.dr_machine.specs.Tied.{AreRingsFor};
 
 use crate::deposits::{DepositFault, deposit_fresh};
@@ -106,29 +101,22 @@ impl<N: Name> Machine<N> {
     /// What the type of a machine keeps: its history is legal, and the list of each kernel seat has
     /// its vCPU's entries from the first to the last that is pushed, with their number that is
     /// reset. No buffer is full.
+    #[tactic(auto, using(crate::proofs::Machines::one_seat_each))]
     pub fn recall_kept(&self)
         ensures legal { IsLegal N.guest self.now.past }
         ensures end { AtTurnsEnd N.guest self.now.past }
         ensures seats { AreSeats N.guest self.now.past self.now.seats }
+        ensures one_each { length self.now.seats ≡ vcpu_count N.guest }
         ensures rings { AreRingsFor N.guest N.rings }
     {
         self.log.recall_legal();
+        self.seats.recall_named();
     }
 
     /// Executes a vCPU's next op, or tells why not.
     pub fn op(&mut self, rings: &Rings<N>, v: u32) -> Result<Turn, Memory>
         requires { v < vcpu_count N.guest }
-        ensures refused { let why = refusal N.guest self.old.over v self.old.past in
-            IfSome why (λ turn. result ≡ Ok turn) }
-        ensures stays { let why = refusal N.guest self.old.over v self.old.past in
-            IfSome why (λ turn. self.new ≡ self.old) }
-        ensures done { let next = operation N.guest v (ops v self.old.past) in
-            refusal N.guest self.old.over v self.old.past ≡ None
-            → IfOk result (λ turn. turn ≡ Turn.Done (op_step next)) }
-        ensures appended { refusal N.guest self.old.over v self.old.past ≡ None
-            → OnOk result (self.new.past ≡ after_op N.guest v self.old.past) }
-        ensures over { self.new.over ≡ self.old.over }
-        ensures err { OnErr result (self.new ≡ self.old) }
+        ensures { OpTurn N.guest v result self.old self.new }
     {
         match next_op(&self.log, self.over, v) {
             Err(turn) => Ok(turn),
@@ -155,17 +143,10 @@ impl<N: Name> Machine<N> {
         Ok(Turn::Done(step_after(op)))
     }
 
-    /// A vCPU leaves the guest, behind its whole buffer; `None` where it isn't in the guest.
+    /// A vCPU leaves the guest, after its whole buffer; `None` where it isn't in the guest.
     pub fn exit(&mut self, rings: &Rings<N>, v: u32) -> Result<Option<Why>, Memory>
         requires { v < vcpu_count N.guest }
-        ensures outside { in_guest v self.old.past ≡ false → result ≡ Ok None }
-        ensures stays { in_guest v self.old.past ≡ false → self.new ≡ self.old }
-        ensures done { in_guest v self.old.past ≡ true
-            → IfOk result (λ why. why ≡ Some (exit_reason N.guest v (all_pushed v self.old.past))) }
-        ensures appended { in_guest v self.old.past ≡ true
-            → OnOk result (self.new.past ≡ after_exit N.guest v self.old.past) }
-        ensures over { self.new.over ≡ self.old.over }
-        ensures err { OnErr result (self.new ≡ self.old) }
+        ensures { ExitTurn N.guest v result self.old self.new }
     {
         let inside = self.log.in_guest(v);
         if inside {
@@ -182,9 +163,7 @@ impl<N: Name> Machine<N> {
     pub fn note(&mut self, rings: &Rings<N>, v: u32) -> Note
         requires { v < vcpu_count N.guest }
         ensures stays { self.new ≡ self.old }
-        ensures note { HasAt self.old.seats v (λ s. result ≡ kernel_note s) }
-        ensures of_kernel { result.by_kernel ≡ true }
-        ensures named { slice_get N.rings v ≡ Some result.ring }
+        ensures note { IsNoteOf N.rings self.old.seats v result }
     {
         self.seats.note(rings, v)
     }
@@ -193,17 +172,7 @@ impl<N: Name> Machine<N> {
     /// memory. Batches of one vCPU may come in any order.
     pub fn deposit(&mut self, rings: &Rings<N>, batch: Batch<N>) -> Result<(), DepositFault<N>>
         requires { 0 < length batch.entries }
-        ensures twice { let to = batch.first + length batch.entries in (k : ℕ)
-            → first_twice batch.vcpu batch.first self.old.past to ≡ Some k
-            → result ≡ Err (DepositFault.Twice batch k) }
-        ensures fault { let to = batch.first + length batch.entries in
-            first_twice batch.vcpu batch.first self.old.past to ≡ None
-            → IfErr result (λ fault. fault ≡ DepositFault.Memory batch) }
-        ensures appended { let to = batch.first + length batch.entries in
-            OnOk result (self.new.past ≡ Event.Deposited batch.vcpu batch.first to
-            ∷ self.old.past) }
-        ensures over { self.new.over ≡ self.old.over }
-        ensures err { OnErr result (self.new ≡ self.old) }
+        ensures { DepositTurn batch result self.old self.new }
     {
         let to = batch.first + batch.entries.len() as u64;
         match first_twice(&self.log, batch.vcpu, batch.first, to) {
@@ -223,9 +192,7 @@ impl<N: Name> Machine<N> {
     /// a later one is.
     pub fn deposited(&self, v: u32) -> Option<u64>
         requires { v < vcpu_count N.guest }
-        ensures some { IfSome result (λ n. (k : ℕ)
-            → list_any (deposits_entry v k) self.now.past ≡ nat_lt k n) }
-        ensures none { result ≡ None → HasGap v self.now.past }
+        ensures { TellsDeposited v self.now.past result }
     {
         deposited(&self.log, v)
     }
@@ -233,14 +200,7 @@ impl<N: Name> Machine<N> {
     /// Resets v's next entry, where that is deposited, and answers how many entries it reset.
     pub fn reset_turn(&mut self, rings: &Rings<N>, v: u32) -> Result<u32, Memory>
         requires { v < vcpu_count N.guest }
-        ensures none { next_deposited v self.old.past ≡ false → result ≡ Ok 0 }
-        ensures stays { next_deposited v self.old.past ≡ false → self.new ≡ self.old }
-        ensures one { next_deposited v self.old.past ≡ true → IfOk result (λ n. n ≡ 1) }
-        ensures appended { let reset = Event.Reset v (resets v self.old.past) in
-            next_deposited v self.old.past ≡ true
-            → OnOk result (self.new.past ≡ reset ∷ self.old.past) }
-        ensures over { self.new.over ≡ self.old.over }
-        ensures err { OnErr result (self.new ≡ self.old) }
+        ensures { ResetTurn v result self.old self.new }
     {
         if is_next_deposited(&self.log, v) {
             self.log.reserve(1)?;
@@ -257,13 +217,7 @@ impl<N: Name> Machine<N> {
     /// Drops all permissions that vCPUs have, where a page was reset since the last flush. Answers
     /// whether there was one.
     pub fn flush(&mut self) -> Result<bool, Memory>
-        ensures none { some_closing N.guest self.old.past ≡ false → result ≡ Ok false }
-        ensures stays { some_closing N.guest self.old.past ≡ false → self.new ≡ self.old }
-        ensures done { some_closing N.guest self.old.past ≡ true → IfOk result (λ b. b ≡ true) }
-        ensures appended { some_closing N.guest self.old.past ≡ true
-            → OnOk result (self.new.past ≡ Event.Flushed ∷ self.old.past) }
-        ensures over { self.new.over ≡ self.old.over }
-        ensures err { OnErr result (self.new ≡ self.old) }
+        ensures { FlushTurn N.guest result self.old self.new }
     {
         if is_closing(&self.log) {
             self.log.reserve(1)?;
@@ -304,9 +258,7 @@ impl<N: Name> Machine<N> {
 
     /// Ends the run: from now on no vCPU executes.
     pub fn give_up(&mut self)
-        ensures past { self.new.past ≡ self.old.past }
-        ensures seats { self.new.seats ≡ self.old.seats }
-        ensures over { self.new.over ≡ true }
+        ensures { self.new ≡ record self.old { over = true } }
     {
         self.over = true;
     }

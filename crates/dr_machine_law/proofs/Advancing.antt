@@ -87,7 +87,7 @@ pub advance_copies_least : (guest : Guest) (now : ℕ) (old new : MachineView) (
 advance_copies_least guest now old new before after result r page due is =
     (copies_of guest now old.past due.legal.0).least r page (answered_as guest now old.past result (advance.Copied r page) due.answer is)
 
--- it is clean behind the advance
+-- it is clean after the advance
 pub advance_cleans : (guest : Guest) (now : ℕ) (old new : MachineView) (before after : List ℕ) (result : Result Advance Memory) (r page : ℕ) → AdvanceOf guest now old new before after result
     → result ≡ Ok (advance.Copied r page) → dirty page new.past ≡ false
 advance_cleans guest now old new before after result r page due is =

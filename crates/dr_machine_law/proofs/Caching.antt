@@ -34,7 +34,7 @@ or_right false b h = h
 given : (v page : ℕ) (rest : Bool) → ((v == v && page == page) || rest) ≡ true
 given v page rest = rw (eq-eqb v v refl, eq-eqb page page refl) refl
 
--- behind a write that comes after Start its page is cached
+-- after a write that comes after Start its page is cached
 pub cached_behind : (v page : ℕ) (e : Event) (past : List Event) → vcpu_of_op e ≡ Some v → started past ≡ true → cached v page (event_behind v e (Some page) past) ≡ true
 cached_behind v page e past is begun =
     behind_case (λ (xs : List Event). cached v page xs ≡ true) (not (started past) || cached v page past) (writable page past) (e ∷ past) (e ∷ Filled v page ∷ past) (e ∷ Opened v (opens v past) page ∷ past)

@@ -1,5 +1,5 @@
 -- What an exit of a vCPU leaves.
-use Rattle.std.proofs.Common.{◌≡◌, ℕ, ◌-◌, ◌≤◌, Bool, true, false, List, Option, refl, sym, subst, arith, length}
+use Rattle.std.proofs.Common.{◌≡◌, ℕ, ◌-◌, ◌<◌, ◌≤◌, Bool, true, false, List, Option, refl, sym, subst, arith, length}
 use Rattle.std.specs.Prelude.{Result, Ok, Err, OnOk, OnErr}
 use Rattle.std.proofs.lemmas.Bool.{eq-eqb}
 use Rattle.std.proofs.lemmas.Result.{on_ok_weaker}
@@ -15,7 +15,7 @@ use Rattle.dr_history.specs.Protection.{started}
 use Rattle.dr_history.specs.Vcpus.{in_guest, kicked}
 use Rattle.dr_history_law.specs.Room.{unpushed}
 use Rattle.dr_history_law.proofs.Outstanding.{pushed_opened}
-use Rattle.dr_ring_set.specs.Seated.{IfAt}
+use Rattle.dr_ring_set.specs.Seated.{HasAt}
 use Rattle.dr_seat_law.specs.Seats.{AreSeats}
 use Rattle.dr_seat_law.proofs.Seating.{seat_counts}
 use Rattle.dr_turns.specs.Turns.{after_exit}
@@ -23,11 +23,13 @@ use Rattle.dr_machine.specs.Views.{MachineView}
 use Rattle.dr_machine_law.proofs.Legal.{owes_no_opened}
 use Rattle.dr_machine_law.proofs.Outside.{outside_unkicked, outside_empty}
 use Rattle.dr_machine_law.proofs.Pushing.{by_pushed}
+use Rattle.dr_machine_law.proofs.Seats.{has_seat}
 
 -- what a machine says of a vCPU's exit
 pub record ExitOf (guest : Guest) (v : ℕ) (old new : MachineView) (result : Result (Option Why) Memory) : Type 0 where
   pub after : IsLegal guest new.past
   pub seats : AreSeats guest new.past new.seats
+  pub within : v < length new.seats
   pub stays : in_guest v old.past ≡ false → new ≡ old
   pub appended : in_guest v old.past ≡ true → OnOk result (new.past ≡ after_exit guest v old.past)
   pub err : OnErr result (new ≡ old)
@@ -40,7 +42,7 @@ always_case : (P : MachineView → Type 0) (past : List Event) (old new : Machin
 always_case P past old new false result stays appended err same then = subst P (sym (stays refl)) same
 always_case P past old new true result stays appended err same then = inside_case P past old new result (appended refl) err same then
 
--- what held before, and holds behind the exit's events, holds whatever came of the exit
+-- what held before, and holds after the exit's events, holds whatever came of the exit
 pub always : (P : List Event → Type 0) (guest : Guest) (v : ℕ) (old new : MachineView) (result : Result (Option Why) Memory) → ExitOf guest v old new result → P old.past → P (after_exit guest v old.past) → P new.past
 always P guest v old new result exit same then =
     always_case (λ (s : MachineView). P s.past) (after_exit guest v old.past) old new (in_guest v old.past) result exit.stays exit.appended exit.err same
@@ -50,7 +52,7 @@ ok_holds : (result : Result (Option Why) Memory) (P : Type 0) → P → OnOk res
 ok_holds (Ok why) P h = h
 ok_holds (Err memory) P h = tt
 
--- behind its exit the vCPU is outside
+-- after its exit the vCPU is outside
 out_after : (guest : Guest) (v : ℕ) (past : List Event) → in_guest v (after_exit guest v past) ≡ false
 out_after guest v past = rw (eq-eqb v v refl) refl
 
@@ -77,9 +79,10 @@ module _ {guest : Guest} {v : ℕ} {old new : MachineView} {result : Result (Opt
   exit_pushed = on_ok_weaker result (λ out. outside_empty guest v new.past exit.after.0 (owes_no_opened guest new.past v exit.after) out) exit_left
 
   -- by its kernel seat
-  pub exit_seat : OnOk result (IfAt new.seats v (λ s. length s.pushed ≡ opens v new.past))
+  pub exit_seat : OnOk result (HasAt new.seats v (λ s. length s.pushed ≡ opens v new.past))
   exit_seat = on_ok_weaker result
-      (λ none s at. equal_case (opens v new.past) (pushes v new.past) (length s.pushed) none (pushed_opened guest new.past v exit.after.0) (seat_counts guest new.past v s (exit.seats.are v s at)))
+      (λ none. has_seat new.seats v (λ s. length s.pushed ≡ opens v new.past) exit.within
+      (λ s at. equal_case (opens v new.past) (pushes v new.past) (length s.pushed) none (pushed_opened guest new.past v exit.after.0) (seat_counts guest new.past v s (exit.seats.are v s at))))
       exit_pushed
 
   -- each vCPU has executed as many ops as before

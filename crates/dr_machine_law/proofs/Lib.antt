@@ -6,6 +6,7 @@ pub mod Caching
 pub mod Operating
 pub mod Legal
 pub mod Outside
+pub mod Seats
 pub mod Leaving
 pub mod Beginning
 pub mod Reaping

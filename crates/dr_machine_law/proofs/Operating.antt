@@ -43,13 +43,13 @@ always_case P past old new (Some turn) result stays appended err same then = sub
 always_case P past old new None (Ok turn) stays appended err same then = then (appended refl)
 always_case P past old new None (Err memory) stays appended err same then = subst P (sym err) same
 
--- what held before, and holds behind the turn's events, holds whatever came of the turn
+-- what held before, and holds after the turn's events, holds whatever came of the turn
 pub always : (P : List Event → Type 0) (guest : Guest) (v : ℕ) (old new : MachineView) (result : Result Turn Memory) → TurnOf guest v old new result → P old.past → P (after_op guest v old.past) → P new.past
 always P guest v old new result turn same then =
     always_case (λ (s : MachineView). P s.past) (after_op guest v old.past) old new (refusal guest old.over v old.past) result turn.stays turn.appended turn.err same
     (λ is. subst P (sym is) then)
 
--- what holds behind the turn's events holds where the vCPU has executed
+-- what holds after the turn's events holds where the vCPU has executed
 pub executing : (P : List Event → Type 0) (guest : Guest) (v : ℕ) (old new : MachineView) (result : Result Turn Memory) → TurnOf guest v old new result → Executes guest v old → P (after_op guest v old.past) → OnOk result (P new.past)
 executing P guest v old new result turn free then = on_ok_weaker result (λ is. subst P (sym is) then) (turn.appended free)
 

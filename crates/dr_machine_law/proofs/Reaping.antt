@@ -1,5 +1,5 @@
 -- What a deposit, a reset and a flush leave.
-use Rattle.std.proofs.Common.{◌≡◌, ◌≢◌, ℕ, ◌+◌, ◌-◌, ◌<◌, ◌≤◌, Bool, true, false, cond, List, ◌∷◌, Option, Some, None, refl, ap, sym, ◌∙◌, arith}
+use Rattle.std.proofs.Common.{◌≡◌, ◌≢◌, ℕ, ◌+◌, ◌-◌, ◌<◌, ◌≤◌, Bool, true, false, cond, List, ◌∷◌, length, Option, Some, None, refl, ap, sym, ◌∙◌, arith}
 use Rattle.std.specs.Prelude.{◌||◌, IfSome, IfOk, OnOk, OnErr, Result, Ok, Err}
 use Rattle.std.proofs.lemmas.Result.{on_ok_weaker}
 use Rattle.dr_types.specs.declared.memory.Memory.{Memory}
@@ -18,9 +18,10 @@ use Rattle.dr_history.specs.Rules.{deposits_entry}
 use Rattle.dr_history_law.proofs.Outstanding.{deposited_pushed}
 use Rattle.dr_turns_law.proofs.Done.{none_any}
 use Rattle.dr_ring.specs.Seats.{KernelView}
-use Rattle.dr_ring_set.specs.Seated.{IfAt}
+use Rattle.dr_ring_set.specs.Seated.{HasAt}
 use Rattle.dr_seat_law.specs.Seats.{AreSeats}
 use Rattle.dr_turns.specs.Due.{some_closing}
+use Rattle.dr_machine_law.proofs.Seats.{has_seat}
 
 -- the numbers of a batch are deposited
 pub batch_is_deposited : (past : List Event) (v from to k : ℕ) → from ≤ k → k < to → list_any (deposits_entry v k) (Deposited v from to ∷ past) ≡ true
@@ -34,12 +35,12 @@ batch_is_pushed guest past v from to some legal =
     omega (arith, lt, some)
 
 -- and known to be harvested
-pub batch_is_known : (guest : Guest) (past : List Event) (seats : List KernelView) (v from to : ℕ) → from < to → AreSeats guest (Deposited v from to ∷ past) seats → IfAt seats v (λ s. to ≤ s.known)
-batch_is_known guest past seats v from to some are =
-    λ s at.
+pub batch_is_known : (guest : Guest) (past : List Event) (seats : List KernelView) (v from to : ℕ) → from < to → v < length seats → AreSeats guest (Deposited v from to ∷ past) seats → HasAt seats v (λ s. to ≤ s.known)
+batch_is_known guest past seats v from to some within are =
+    has_seat seats v (λ s. to ≤ s.known) within (λ s at.
     let last : list_any (deposits_entry v (to - 1)) (Deposited v from to ∷ past) ≡ true = batch_is_deposited past v from to (to - 1) (omega (arith, some)) (omega (arith, some)) in
     let lt = (are.are v s at).knows (to - 1) last in
-    omega (arith, lt, some)
+    omega (arith, lt, some))
 
 -- a reset counts for its vCPU alone
 pub own_reset : (past : List Event) (v k : ℕ) → resets v (Reset v k ∷ past) ≡ resets v past + 1
@@ -56,10 +57,11 @@ closes_case past v k (Some p) is = ap (λ (o : Option ℕ). is_number p o || clo
 pub reset_closes : (past : List Event) (v k : ℕ) → IfSome (page_of_entry v k past) (λ p. closing p (Reset v k ∷ past) ≡ true)
 reset_closes past v k = closes_case past v k (page_of_entry v k past) refl
 
-pub seat_reset : (guest : Guest) (past : List Event) (seats : List KernelView) (v : ℕ) → AreSeats guest past seats → IfAt seats v (λ s. s.reset ≡ resets v past)
-seat_reset guest past seats v are = λ s at. (are.are v s at).is_reset
+pub seat_reset : (guest : Guest) (past : List Event) (seats : List KernelView) (v : ℕ) → v < length seats → AreSeats guest past seats → HasAt seats v (λ s. s.reset ≡ resets v past)
+seat_reset guest past seats v within are =
+    has_seat seats v (λ s. s.reset ≡ resets v past) within (λ s at. (are.are v s at).is_reset)
 
--- behind a flush nothing is closing
+-- after a flush nothing is closing
 pub flush_closes : (guest : Guest) (past : List Event) → some_closing guest (Flushed ∷ past) ≡ false
 unfolding some_closing
 flush_closes guest past = none_any (λ page. closing page (Flushed ∷ past)) (page_count guest) (λ page lt. refl)

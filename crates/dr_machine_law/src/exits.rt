@@ -6,7 +6,7 @@ ghost use Rattle.dr_history.specs.Memory.{page_bytes};
 ghost use Rattle.dr_history.specs.Protection.{started};
 ghost use Rattle.dr_history.specs.Vcpus.{in_guest, kicked};
 ghost use Rattle.dr_history_law.specs.Room.{unpushed};
-ghost use Rattle.dr_ring_set.specs.Seated.{IfAt};
+ghost use Rattle.dr_ring_set.specs.Seated.{HasAt};
 
 use dr_machine::Machine;
 use dr_ring::Name;
@@ -25,7 +25,7 @@ pub fn exit<N: Name>(
     ensures unkicked { OnOk result (kicked v machine.new.past ≡ false) }
     ensures pushed { OnOk result (unpushed v machine.new.past ≡ 0) }
     ensures seat { OnOk result
-        (IfAt machine.new.seats v (λ s. length s.pushed ≡ opens v machine.new.past)) }
+        (HasAt machine.new.seats v (λ s. length s.pushed ≡ opens v machine.new.past)) }
     ensures ops { (u : ℕ) → ops u machine.new.past ≡ ops u machine.old.past }
     ensures started { started machine.new.past ≡ started machine.old.past }
     ensures bytes { (page : ℕ)

@@ -7,7 +7,7 @@ ghost use Rattle.dr_history.specs.Entries.{page_of_entry, pushes, resets};
 ghost use Rattle.dr_history.specs.Protection.{cached, closing};
 ghost use Rattle.dr_history.specs.Rules.{deposits_entry};
 ghost use Rattle.dr_turns_law.specs.Deposits.{next_deposited};
-ghost use Rattle.dr_ring_set.specs.Seated.{IfAt};
+ghost use Rattle.dr_ring_set.specs.Seated.{HasAt};
 ghost use Rattle.dr_turns.specs.Due.{some_closing};
 
 use dr_machine::{DepositFault, Machine};
@@ -28,7 +28,7 @@ pub fn deposit<N: Name>(
     ensures pushed { let to = batch.first + length batch.entries in
         OnOk result (to ≤ pushes batch.vcpu machine.new.past) }
     ensures known { let to = batch.first + length batch.entries in
-        OnOk result (IfAt machine.new.seats batch.vcpu (λ s. to ≤ s.known)) }
+        OnOk result (HasAt machine.new.seats batch.vcpu (λ s. to ≤ s.known)) }
 {
     let answer = machine.deposit(rings, batch);
     machine.recall_kept();
@@ -47,7 +47,7 @@ pub fn reset_turn<N: Name>(
         (λ n. resets v machine.new.past ≡ resets v machine.old.past + n) }
     ensures others { (u : ℕ) → u ≢ v
         → resets u machine.new.past ≡ resets u machine.old.past }
-    ensures seat { IfAt machine.new.seats v (λ s. s.reset ≡ resets v machine.new.past) }
+    ensures seat { HasAt machine.new.seats v (λ s. s.reset ≡ resets v machine.new.past) }
     ensures closing { let page = page_of_entry v (resets v machine.old.past) machine.old.past in
         next_deposited v machine.old.past ≡ true
         → OnOk result (IfSome page (λ p. closing p machine.new.past ≡ true)) }

@@ -26,7 +26,7 @@ use Rattle.dr_schedule_law.proofs.Timing.{op_times, exited_times, reap_times}
 use Rattle.dr_migrate.specs.Driving.{Acts, ActsInPart, Breaks, Moves}
 use Rattle.dr_migrate.specs.Leaving.{ExitedInPart}
 
--- the times of events behind others
+-- the times of events after others
 times_append : (xs ys : List Event) → times (xs ++ ys) ≡ times xs ++ times ys
 times_append [] ys = refl
 times_append (Start at ∷ xs) ys = ap (λ ts. at ∷ ts) (times_append xs ys)

@@ -1,5 +1,5 @@
 -- What one block of a drive leaves.
-use Rattle.std.proofs.Common.{inl, inr, ◌≡◌, ℕ, ◌<◌, ◌≤◌, List, [], ◌∷◌, ◌++◌, length, refl, ap, sym, subst, ◌∙◌, arith, append_assoc}
+use Rattle.std.proofs.Common.{inl, inr, ◌≡◌, ℕ, ◌<◌, ◌≤◌, false, List, [], ◌∷◌, ◌++◌, length, refl, ap, sym, subst, ◌∙◌, arith, append_assoc}
 use Rattle.std.proofs.lemmas.List.Elements.{All-append, All-cons}
 use Rattle.std.specs.Prelude.{Option, Some, None, Result, Ok, Err}
 use Rattle.dr_types.specs.declared.guest.Guest.{Guest}
@@ -22,7 +22,7 @@ use Rattle.dr_schedule_law.specs.Timed.{MayAddTime}
 use Rattle.dr_schedule_law.proofs.Scheduled.{follows_still, follows_then, follows_cut, cut_behind, advance_follows, any_advance_follows}
 use Rattle.dr_schedule_law.proofs.Advances.{advance_more, advance_none}
 use Rattle.dr_schedule_law.proofs.Timing.{advance_times}
-use Rattle.dr_migrate.specs.Driving.{AddsRead, Continues, GoesOn, HasAdvanced, HasDriven, SinkRises, MadeBlock, Waited}
+use Rattle.dr_migrate.specs.Driving.{AddsRead, Continues, GoesOn, HasAdvanced, HasDriven, IsDue, SinkRises, MadeBlock, Waited, is_sink}
 
 -- the advance was made
 pub has_advanced : (guest : Guest) (now : ℕ) (old new : List Event) (due : Advance)
@@ -53,6 +53,20 @@ pub advance_cut_times : (guest : Guest) (now : ℕ) (old new : BenchView) (why :
     → AdvanceFails guest now old new why → MayAddTime now old.past new.past
 advance_cut_times guest now old new fault.Memory same = inl (ap (λ (s : BenchView). times s.past) same)
 advance_cut_times guest now old new fault.Sink sinks = rw sinks.past (advance_times guest now old.past)
+
+-- where its put failed the run was given up, and for want of memory it goes on
+pub advance_over : (guest : Guest) (now : ℕ) (old new : BenchView) (why : BenchFault) → old.over ≡ false
+    → AdvanceFails guest now old new why → new.over ≡ is_sink why
+advance_over guest now old new fault.Memory going same = ap (λ (s : BenchView). s.over) same ∙ going
+advance_over guest now old new fault.Sink going sinks = sinks.over
+
+-- an advance that appends nothing is still due
+pub still_due : (guest : Guest) (now : ℕ) (old new : List Event) (due : Advance)
+    → HasAdvanced guest now due old new → appends due ≡ false → IsDue guest new due
+still_due guest now old new due it waits = record {
+  now = now;
+  answer = subst (λ (xs : List Event). (advanced guest now xs).0 ≡ due) (sym (it.waits waits)) it.answer;
+}
 
 -- where its put failed, the count of faults has risen
 pub advance_rises : (guest : Guest) (now : ℕ) (old new : BenchView) (why : BenchFault)

@@ -36,6 +36,11 @@ pub record GoesOn (guest : Guest) (it : BenchView) (collected : List Collected) 
   pub going : it.over ≡ false
   pub all_deposited : AllDeposited guest it.past collected
 
+-- the advance that is due answers this, at some time
+pub record IsDue (guest : Guest) (past : List Event) (due : Advance) : Type 0 where
+  pub now : ℕ
+  pub answer : (advanced guest now past).0 ≡ due
+
 -- Turns that came to their end: whole blocks of the schedule came, there are more events, and no
 -- time was named.
 pub record Moves (guest : Guest) (old new : List Event) : Type 0 where
@@ -80,7 +85,7 @@ IsExecuted guest v old new (turn.Full used soft) = (is_full guest v old ≡ true
 IsExecuted guest v old new t = ⊥
 
 -- what a vCPU's turns leave that was to execute: with a full ring it left and rings were reaped;
--- behind a halt it left; else it executed its next op
+-- after a halt it left; else it executed its next op
 pub record Acts (guest : Guest) (v : ℕ) (old new : List Event) : Type 0 where
   pub full : is_full guest v old ≡ true
       → new ≡ reaped guest (reaps_after_full guest v) (exited guest v old)

@@ -1,6 +1,7 @@
 //! A migration on one thread, by the schedule.
 #![tactic(auto)]
 
+mod context;
 mod leaving;
 mod reaping;
 mod run;

@@ -1,6 +1,6 @@
 ghost use Rattle.std.specs.Prelude.{◌≡◌, ◌<◌, OnOk, OnErr};
 ghost use Rattle.dr_types.specs.Scripts.{vcpu_count};
-ghost use Rattle.dr_bench.specs.Bench.{SameOutlet};
+ghost use Rattle.dr_bench.specs.Bench.{SameStanding};
 ghost use Rattle.dr_schedule_law.specs.Reaps.{Extends, reaped};
 ghost use Rattle.dr_schedule_law.specs.Schedule.{reaps_after_full};
 ghost use Rattle.dr_reap.specs.Harvests.{AllDeposited};
@@ -30,8 +30,7 @@ pub fn reap_after_full<N: Name, O: Outlet>(
     ensures begun { OnErr result (Extends bench.old.past bench.new.past) }
     ensures part { let whose = reaps_after_full N.guest v in
         OnErr result (Extends bench.new.past (reaped N.guest whose bench.old.past)) }
-    ensures over { bench.new.over ≡ bench.old.over }
-    ensures outlet { SameOutlet bench.old bench.new }
+    ensures standing { SameStanding bench.old bench.new }
 {
     // As in QEMU where a dirty limit is in service: there a vCPU whose ring is full has that one
     // reaped, so that it pays for its own writes; else all rings are.

@@ -1,14 +1,14 @@
-ghost use Rattle.std.specs.Prelude.{◌≡◌, ◌<◌, ◌≤◌, ℕ, All, false, Some, None};
-ghost use Rattle.std.specs.Prelude.{IfOk, IfErr, OnOk, OnErr, length};
+ghost use Rattle.std.specs.Prelude.{◌≡◌, ◌<◌, ◌≤◌, false, Some, None};
+ghost use Rattle.std.specs.Prelude.{IfOk, IfErr, OnOk, OnErr};
 ghost use Rattle.dr_history.specs.Times.{times};
-ghost use Rattle.dr_schedule_law.specs.Bound.{most_events};
-ghost use Rattle.dr_bench.specs.Bench.{SameOutlet};
+ghost use Rattle.dr_bench.specs.Bench.{SameStanding};
 ghost use Rattle.dr_schedule_law.specs.Schedule.{appends, Follows, CutAtTurn};
 ghost use Rattle.dr_schedule_law.specs.Timed.{MayAddTime};
 ghost use Rattle.dr_turns.specs.Due.{advanced};
 ghost use Rattle.dr_migrate.specs.Driving.{AddsRead, GoesOn, HasAdvanced, IsEnd, SinkRises};
-ghost use Rattle.dr_migrate.specs.Driving.{MadeBlock, Waited, is_sink};
+ghost use Rattle.dr_migrate.specs.Driving.{IsDue, MadeBlock, Waited, is_sink};
 
+use crate::context::Context;
 use crate::waits::{appends, flush, kick_out, reap, run_vcpu};
 use dr_bench::{Bench, BenchFault};
 use dr_collector::Collector;
@@ -32,6 +32,7 @@ fn advance<N: Name, O: Outlet>(
     ensures cut { OnErr result (CutAtTurn N.guest bench.old.past bench.new.past) }
     ensures times { MayAddTime now bench.old.past bench.new.past }
     ensures sink { IfErr result (λ why. bench.new.failed ≡ is_sink why) }
+    ensures over { IfErr result (λ why. bench.new.over ≡ is_sink why) }
     ensures risen { IfErr result (λ why. SinkRises why bench.old.faults bench.new.faults) }
     ensures later { bench.old.faults ≤ bench.new.faults }
 {
@@ -43,30 +44,26 @@ fn advance<N: Name, O: Outlet>(
 /// Does what an advance calls for that appended nothing. Answers where the run stands at
 /// its end, and `None` where it goes on.
 fn wait<N: Name, O: Outlet, C: Clock>(
-    alloc: Global,
+    context: &Context<N, C>,
     bench: &mut Bench<N, O>,
     collector: &mut Collector<N>,
-    rings: &Rings<N>,
-    clock: &C,
-    now: u64,
     due: Advance,
 ) -> Result<Option<RunEnd>, Memory>
-    requires answer { (advanced N.guest now bench.old.past).0 ≡ due }
+    requires due { IsDue N.guest bench.old.past due }
     requires waits { appends due ≡ false }
     requires going { GoesOn N.guest bench.old collector.old }
     ensures waited { Waited N.guest result bench.old.past bench.new.past }
     ensures going { OnOk result (GoesOn N.guest bench.new collector.new) }
-    ensures over { bench.new.over ≡ bench.old.over }
-    ensures outlet { SameOutlet bench.old bench.new }
+    ensures standing { SameStanding bench.old bench.new }
 {
     bench.recall_kept();
     match due {
         Advance::NotPaced { v, done } => {
-            run_vcpu(alloc, bench, collector, rings, clock, now, v, done)?;
+            run_vcpu(context, bench, collector, v, done)?;
         }
-        Advance::NotOut { v } => kick_out(bench, collector, rings, now, v)?,
-        Advance::NotReset { v, k } => reap(alloc, bench, collector, rings, now, v, k)?,
-        Advance::NotFlushed => flush(bench, collector, now)?,
+        Advance::NotOut { v } => kick_out(bench, collector, context.rings, v)?,
+        Advance::NotReset { v, k } => reap(context, bench, collector, v, k)?,
+        Advance::NotFlushed => flush(bench, collector)?,
         Advance::Finished => return Ok(Some(RunEnd::Switched)),
         Advance::Budget => return Ok(Some(RunEnd::Budget)),
         Advance::Started
@@ -82,32 +79,30 @@ fn wait<N: Name, O: Outlet, C: Clock>(
 /// Makes the advance that is due, or what it calls for. Answers where the run stands at
 /// its end, and `None` where it goes on.
 fn make_block<N: Name, O: Outlet, C: Clock>(
-    alloc: Global,
+    context: &Context<N, C>,
     bench: &mut Bench<N, O>,
     collector: &mut Collector<N>,
-    rings: &Rings<N>,
-    clock: &C,
 ) -> Result<Option<RunEnd>, BenchFault>
     requires going { GoesOn N.guest bench.old collector.old }
     ensures made_block { MadeBlock N.guest result bench.old.past bench.new.past }
     ensures going { OnOk result (GoesOn N.guest bench.new collector.new) }
     ensures sink { IfErr result (λ why. bench.new.failed ≡ is_sink why) }
+    ensures over { IfErr result (λ why. bench.new.over ≡ is_sink why) }
     ensures risen { IfErr result (λ why. SinkRises why bench.old.faults bench.new.faults) }
     ensures later { bench.old.faults ≤ bench.new.faults }
-    ensures times { AddsRead (C.reads clock.now) bench.old.past bench.new.past }
+    ensures times { AddsRead (C.reads context.now.clock.now) bench.old.past bench.new.past }
 {
-    let now = clock.now_us();
-    let due = advance(bench, collector, now)?;
+    let due = advance(bench, collector, context.clock.now_us())?;
     if appends(due) {
         return Ok(None);
     }
-    let end = wait(alloc, bench, collector, rings, clock, now, due)?;
+    let end = wait(context, bench, collector, due)?;
     bench.recall_kept();
     Ok(end)
 }
 
 /// Takes a bench to its end by the schedule: the advance that is due is done again and again.
-/// Where it waits for a vCPU to be paced, that vCPU executes its next op, and leaves behind a halt;
+/// Where it waits for a vCPU to be paced, that vCPU executes its next op, and leaves after a halt;
 /// with a full ring it leaves, its ring is reaped, or all are where there is no quota, and it
 /// sleeps for its throttle. A kicked vCPU leaves. Where entries are to be reset all rings are
 /// reaped; where pages are closing they are flushed. Each of these adds an event, and a guest has
@@ -128,12 +123,18 @@ pub fn drive<N: Name, O: Outlet, C: Clock>(
     ensures scheduled { OnOk result (Follows N.guest bench.old.past bench.new.past) }
     ensures cut { OnErr result (CutAtTurn N.guest bench.old.past bench.new.past) }
     ensures sink { IfErr result (λ why. bench.new.failed ≡ is_sink why) }
+    ensures over { IfErr result (λ why. bench.new.over ≡ is_sink why) }
     ensures risen { IfErr result (λ why. SinkRises why bench.old.faults bench.new.faults) }
     ensures later { bench.old.faults ≤ bench.new.faults }
     ensures times { AddsRead (C.reads clock.now) bench.old.past bench.new.past }
 {
+    let context = Context {
+        alloc,
+        rings,
+        clock,
+    };
     loop {
-        match make_block(alloc, bench, collector, rings, clock)? {
+        match make_block(&context, bench, collector)? {
             Some(end) => return Ok(end),
             None => {}
         }

@@ -55,7 +55,7 @@ range_is v w first entries harvested c d vcpu at are handed =
     ap (λ (u : ℕ). range_of u first (length entries)) vcpu
     ∙ ap (λ (n : ℕ). range_of v n (length entries)) at ∙ ap (range_of v c) count
 
--- what was harvested of one vCPU behind a note is such a range
+-- what was harvested of one vCPU after a note is such a range
 pub part_case : (guest : Guest) (v : ℕ) (past : List Event) (old new : List Collected) (c d : Collected)
     (b : BatchView) (r : Range) (noted size : ℕ) → IsLegalSoFar guest past
     → AreFirstDeposited v c.handed past → c.handed ≤ length c.seat.harvested
@@ -67,20 +67,20 @@ pub part_case : (guest : Guest) (v : ℕ) (past : List Event) (old new : List Co
 part_case guest v past old new c d b r noted size legal deposited within here there is vcpu first entries
     handed kept same seen told =
     let before : handed_of old v ≡ c.handed = ap handed_out here in
-    let behind : handed_of new v ≡ d.handed = ap handed_out there in
+    let after : handed_of new v ≡ d.handed = ap handed_out there in
     let longer : length c.seat.harvested ≤ length d.seat.harvested = prefix_length c.seat.harvested
     d.seat.harvested kept in
     let count : length b.entries ≡ length d.seat.harvested - b.first = ap length entries
     ∙ length-drop b.first d.seat.harvested in
-    let on : handed_of old v ≤ handed_of new v = omega (arith, before, behind, within, longer, handed) in
+    let on : handed_of old v ≤ handed_of new v = omega (arith, before, after, within, longer, handed) in
     let reached : pushes v past ≤ b.first + length b.entries = reaches_pushes guest past v b.first
     (length b.entries) noted size legal
     (subst (λ (n : ℕ). AreFirstDeposited v n past) (sym first) deposited) same seen told in
     record {
       range = is ∙ range_is v b.vcpu b.first b.entries d.seat.harvested (handed_of old v)
-          (handed_of new v) vcpu (first ∙ sym before) entries (behind ∙ handed);
+          (handed_of new v) vcpu (first ∙ sym before) entries (after ∙ handed);
       onward = on;
-      whole = omega (arith, reached, count, first, before, behind, handed, within, longer);
+      whole = omega (arith, reached, count, first, before, after, handed, within, longer);
     }
 
 -- a batch of a harvest with a note is such a range

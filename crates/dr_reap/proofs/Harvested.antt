@@ -64,16 +64,16 @@ exact_case false guest v s e here past first le whole is before legal = record {
 }
 
 -- the first vCPUs' ranges are their rests
-pub record AreExact (whose : Option ℕ) (behind : ℕ → ℕ) (rs : List Range) (n : ℕ)
+pub record AreExact (whose : Option ℕ) (after : ℕ → ℕ) (rs : List Range) (n : ℕ)
     (past : List Event) : Type 0 where
   pub rests : rests_deposited whose n past ≡ deposited_all (in_order n rs) past
-  pub ends : (v : ℕ) → v < n → is_reaped whose v ≡ true → behind v ≡ pushes v past
+  pub ends : (v : ℕ) → v < n → is_reaped whose v ≡ true → after v ≡ pushes v past
 
-exact_more : (whose : Option ℕ) (behind : ℕ → ℕ) (rs : List Range) (n : ℕ) (past : List Event)
-    → AreExact whose behind rs n past
-    → IsExact (is_reaped whose n) n (behind n) (of_vcpu n rs) (deposited_all (in_order n rs) past)
-    → AreExact whose behind rs (suc n) past
-exact_more whose behind rs n past old one =
+exact_more : (whose : Option ℕ) (after : ℕ → ℕ) (rs : List Range) (n : ℕ) (past : List Event)
+    → AreExact whose after rs n past
+    → IsExact (is_reaped whose n) n (after n) (of_vcpu n rs) (deposited_all (in_order n rs) past)
+    → AreExact whose after rs (suc n) past
+exact_more whose after rs n past old one =
     let same : pushes n (deposited_all (in_order n rs) past) ≡ pushes n past = ap (pushes n)
     (sym old.rests) ∙ deposited_pushes whose n n past in
     record {
@@ -84,19 +84,19 @@ exact_more whose behind rs n past old one =
             | inl l ↦ old.ends v l is
             | inr g ↦
                 let e : n ≡ v = omega (arith, lt, g) in
-                subst (λ (u : ℕ). is_reaped whose u ≡ true → behind u ≡ pushes u past) e
+                subst (λ (u : ℕ). is_reaped whose u ≡ true → after u ≡ pushes u past) e
                 (λ h. one.ends h ∙ same) is
           ];
     }
 
 -- where the deposits are legal
-pub exact_below : (guest : Guest) (whose : Option ℕ) (before behind : ℕ → ℕ) (rs : List Range)
+pub exact_below : (guest : Guest) (whose : Option ℕ) (before after : ℕ → ℕ) (rs : List Range)
     (past : List Event) (n : ℕ) → n ≤ vcpu_count guest → IsLegalSoFar guest past
-    → AreDepositedUpTo guest before past → AreHarvested guest whose before behind rs past
-    → IsLegalSoFar guest (deposited_all (in_order n rs) past) → AreExact whose behind rs n past
-exact_below guest whose before behind rs past zero le first step it legal = record
+    → AreDepositedUpTo guest before past → AreHarvested guest whose before after rs past
+    → IsLegalSoFar guest (deposited_all (in_order n rs) past) → AreExact whose after rs n past
+exact_below guest whose before after rs past zero le first step it legal = record
     { rests = refl; ends = λ v lt is. absurd (omega (arith, lt)) }
-exact_below guest whose before behind rs past (suc n) le first step it legal =
+exact_below guest whose before after rs past (suc n) le first step it legal =
     let lt : n < vcpu_count guest = omega (arith, le) in
     let was : List Event = deposited_all (in_order n rs) past in
     let now : IsLegalSoFar guest (deposited_all (of_vcpu n rs) was) = subst
@@ -104,13 +104,13 @@ exact_below guest whose before behind rs past (suc n) le first step it legal =
     (deposited_append (in_order n rs) (of_vcpu n rs) past) legal in
     let mid : IsLegalSoFar guest was = legal_before guest was (deposited_all (of_vcpu n rs) was)
     (deposits_extend (of_vcpu n rs) was) now in
-    let old = exact_below guest whose before behind rs past n (omega (arith, le)) first step it mid in
+    let old = exact_below guest whose before after rs past n (omega (arith, le)) first step it mid in
     let own : AreFirstDeposited n (before n) was = subst (AreFirstDeposited n (before n)) old.rests
     (later_stay whose n n (before n) past (omega arith) (step.each n lt)) in
     let same : pushes n was ≡ pushes n past = ap (pushes n) (sym old.rests)
     ∙ deposited_pushes whose n n past in
-    exact_more whose behind rs n past old
-    (exact_case (is_reaped whose n) guest n (before n) (behind n) (of_vcpu n rs) was own (it.onward n lt)
+    exact_more whose after rs n past old
+    (exact_case (is_reaped whose n) guest n (before n) (after n) (of_vcpu n rs) was own (it.onward n lt)
     (λ h. let w = it.whole n lt h in omega (arith, same, w)) (it.each n lt) mid now)
 
 rest_case : (reaps : Bool) (v s e p : ℕ) → (reaps ≡ true → e ≡ p)
@@ -119,12 +119,12 @@ rest_case true v s e p is = ap (λ (q : ℕ). range_of v s (q - s) ∷ []) (is r
 rest_case false v s e p is = refl
 
 -- so what is harvested is what rests
-pub exact_rests : (guest : Guest) (whose : Option ℕ) (before behind : ℕ → ℕ) (rs : List Range)
-    (past : List Event) → AreHarvested guest whose before behind rs past
-    → AreExact whose behind rs (vcpu_count guest) past → AreRests guest whose before rs past
-exact_rests guest whose before behind rs past it exact = record {
+pub exact_rests : (guest : Guest) (whose : Option ℕ) (before after : ℕ → ℕ) (rs : List Range)
+    (past : List Event) → AreHarvested guest whose before after rs past
+    → AreExact whose after rs (vcpu_count guest) past → AreRests guest whose before rs past
+exact_rests guest whose before after rs past it exact = record {
   each = λ v lt. it.each v lt
-      ∙ rest_case (is_reaped whose v) v (before v) (behind v) (pushes v past) (exact.ends v lt);
+      ∙ rest_case (is_reaped whose v) v (before v) (after v) (pushes v past) (exact.ends v lt);
 }
 
 end_case : (reaps : Bool) (e s p : ℕ) → (reaps ≡ true → e ≡ p) → (reaps ≡ false → e ≡ s) → cond reaps p s ≡ e
@@ -132,32 +132,32 @@ end_case true e s p ends stays = sym (ends refl)
 end_case false e s p ends stays = sym (stays refl)
 
 -- what a settling of it leaves
-pub record Reaps (guest : Guest) (whose : Option ℕ) (behind : ℕ → ℕ) (old new : List Event) : Type 0 where
+pub record Reaps (guest : Guest) (whose : Option ℕ) (after : ℕ → ℕ) (old new : List Event) : Type 0 where
   pub past : new ≡ reaped guest whose old
-  pub step : AreDepositedUpTo guest behind new
+  pub step : AreDepositedUpTo guest after new
 
 -- A settling of what was harvested is a reap, and leaves the collector in step.
-pub harvest_reaps : (guest : Guest) (whose : Option ℕ) (before behind : ℕ → ℕ) (rs : List Range)
+pub harvest_reaps : (guest : Guest) (whose : Option ℕ) (before after : ℕ → ℕ) (rs : List Range)
     (old new : List Event) (n : ℕ) → IsLegalSoFar guest old → IsLegalSoFar guest new
-    → AreDepositedUpTo guest before old → AreHarvested guest whose before behind rs old
-    → Settles guest rs old new n → Reaps guest whose behind old new
-harvest_reaps guest whose before behind rs old new n first last step it settled =
+    → AreDepositedUpTo guest before old → AreHarvested guest whose before after rs old
+    → Settles guest rs old new n → Reaps guest whose after old new
+harvest_reaps guest whose before after rs old new n first last step it settled =
     let mid : IsLegalSoFar guest (deposited_all (in_order (vcpu_count guest) rs) old) = legal_before guest
     (deposited_all (in_order (vcpu_count guest) rs) old) new
     (settled_grows guest rs old new n settled) last in
-    let exact = exact_below guest whose before behind rs old (vcpu_count guest)
+    let exact = exact_below guest whose before after rs old (vcpu_count guest)
     (omega arith) first step it mid in
     let past : new ≡ reaped guest whose old = settles_reaps guest whose before rs old new n first step
-    (exact_rests guest whose before behind rs old it exact) settled in
-    let after = reap_moves_deposits guest whose before old first step in
+    (exact_rests guest whose before after rs old it exact) settled in
+    let moved = reap_moves_deposits guest whose before old first step in
     record {
       past = past;
       step = record {
         each = λ v lt.
-            subst (λ (xs : List Event). AreFirstDeposited v (behind v) xs) (sym past)
+            subst (λ (xs : List Event). AreFirstDeposited v (after v) xs) (sym past)
             (subst (λ (m : ℕ). AreFirstDeposited v m (reaped guest whose old))
-            (end_case (is_reaped whose v) (behind v) (before v) (pushes v old) (exact.ends v lt)
-            (it.others v lt)) (after.each v lt));
+            (end_case (is_reaped whose v) (after v) (before v) (pushes v old) (exact.ends v lt)
+            (it.others v lt)) (moved.each v lt));
       };
     }
 
@@ -187,19 +187,19 @@ deposits_grow whose n (suc m) past le =
     ]
 
 -- one that is cut off in its deposits
-cut_deposits : (guest : Guest) (whose : Option ℕ) (before behind : ℕ → ℕ) (rs : List Range)
+cut_deposits : (guest : Guest) (whose : Option ℕ) (before after : ℕ → ℕ) (rs : List Range)
     (old new : List Event) → IsLegalSoFar guest old → IsLegalSoFar guest new → AreDepositedUpTo guest before old
-    → AreHarvested guest whose before behind rs old → DepositsPart (in_order (vcpu_count guest) rs) old new
+    → AreHarvested guest whose before after rs old → DepositsPart (in_order (vcpu_count guest) rs) old new
     → Extends new (reaped guest whose old)
 unfolding reaped
-cut_deposits guest whose before behind rs old new first last step it part =
+cut_deposits guest whose before after rs old new first last step it part =
     let n : ℕ = vcpu_count guest in
     let cut : AreBelow rs part.deposits.done n = cut_between (is_reaped whose)
-    (λ v. range_of v (before v) (behind v - before v)) n rs part.deposits.done part.rest part.next
+    (λ v. range_of v (before v) (after v - before v)) n rs part.deposits.done part.rest part.next
     it.each part.deposits.parts in
     let here : new ≡ deposited_all (in_order cut.vcpu rs) old = part.deposits.past
     ∙ ap (λ (ds : List Range). deposited_all ds old) cut.done_is in
-    let exact = exact_below guest whose before behind rs old cut.vcpu cut.within first step it
+    let exact = exact_below guest whose before after rs old cut.vcpu cut.within first step it
     (subst (λ (xs : List Event). IsLegalSoFar guest xs) here last) in
     let all : List Event = rests_deposited whose n old in
     let some : Extends new all = subst (λ (xs : List Event). Extends xs all) (exact.rests ∙ sym here)
@@ -209,19 +209,19 @@ cut_deposits guest whose before behind rs old new first last step it part =
     (below_extends 0 n all (omega arith)) (flush_extends guest (all_reset_below n all)))
 
 -- A settling of it that is cut off leaves a part of a reap.
-pub harvest_cut : (guest : Guest) (whose : Option ℕ) (before behind : ℕ → ℕ) (rs : List Range)
+pub harvest_cut : (guest : Guest) (whose : Option ℕ) (before after : ℕ → ℕ) (rs : List Range)
     (old new : List Event) → IsLegalSoFar guest old → IsLegalSoFar guest new → AreDepositedUpTo guest before old
-    → AreHarvested guest whose before behind rs old → SettlesPart guest rs old new
+    → AreHarvested guest whose before after rs old → SettlesPart guest rs old new
     → Extends new (reaped guest whose old)
-harvest_cut guest whose before behind rs old new first last step it part =
+harvest_cut guest whose before after rs old new first last step it part =
     let mid : List Event = deposited_all (in_order (vcpu_count guest) rs) old in
     let whole = λ (grows : Extends mid new).
     settling_cut guest whose before rs old new first step
-    (exact_rests guest whose before behind rs old it
-    (exact_below guest whose before behind rs old (vcpu_count guest) (omega arith) first step it
+    (exact_rests guest whose before after rs old it
+    (exact_below guest whose before after rs old (vcpu_count guest) (omega arith) first step it
     (legal_before guest mid new grows last))) part in
     elim part [
-      | inl d ↦ cut_deposits guest whose before behind rs old new first last step it d
+      | inl d ↦ cut_deposits guest whose before after rs old new first last step it d
       | inr (inl r) ↦ whole (resets_part_grows (vcpu_count guest) mid new r)
       | inr (inr f) ↦ whole (flush_waits_grows guest mid new f)
     ]

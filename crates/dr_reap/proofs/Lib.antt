@@ -1,5 +1,5 @@
 pub mod Counting
-pub mod Outlets
+pub mod Standing
 pub mod Ranges
 pub mod Resetting
 pub mod Earlier

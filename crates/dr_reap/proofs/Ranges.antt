@@ -38,7 +38,7 @@ others_stay f w (suc i) (x ∷ xs) b at lt not = ap (λ rs. cond ((f x).vcpu == 
 pub not_other : (u v w : ℕ) → (u == v) ≡ true → (w == v) ≡ false → (u == w) ≡ false
 not_other u v w is not = ne_eqb u w (λ e. true≢false (sym is ∙ ap (λ k. k == v) e ∙ not))
 
--- deposits of two lists, one behind the other
+-- deposits of two lists, one after the other
 deposited_append : (xs ys : List Range) (past : List Event) → deposited_all (xs ++ ys) past ≡ deposited_all ys (deposited_all xs past)
 deposited_append [] ys past = refl
 deposited_append (x ∷ xs) ys past = deposited_append xs ys (deposited_one x past)
@@ -87,7 +87,7 @@ order_begins rs v (suc n) le =
       | inr l ↦ let b = order_begins rs v n l in record { rest = b.rest ++ of_vcpu n rs; parts = ap (λ xs. xs ++ of_vcpu n rs) b.parts ∙ append_assoc (in_order v rs) b.rest (of_vcpu n rs) }
     ]
 
--- some of those of one vCPU, behind all of those before it
+-- some of those of one vCPU, after all of those before it
 pub order_part : (v n : ℕ) (rs here : List Range) (old mid new : List Event) → v < n → mid ≡ deposited_all (in_order v rs) old → here ≡ of_vcpu v rs → DepositsPart here mid new → DepositsPart (in_order n rs) old new
 order_part v n rs here old mid new lt before is part =
     let b = order_begins rs (suc v) n (omega (arith, lt)) in

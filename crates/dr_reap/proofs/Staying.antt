@@ -17,7 +17,7 @@ use Rattle.dr_reap.specs.Harvests as harvests
 use Rattle.dr_reap.specs.Harvests.{handed_out, handed_of}
 use Rattle.dr_reap.proofs.Batches.{in_numbers}
 
--- behind other events, where the numbers are the same
+-- after other events, where the numbers are the same
 still_deposited : (guest : Guest) (past new : List Event) (collected : List Collected)
     → harvests.AllDeposited guest past collected
     → (AreDepositedUpTo guest (handed_of collected) past → AreDepositedUpTo guest (handed_of collected) new)
@@ -44,7 +44,7 @@ begins_all_deposited guest users all = record {
       (at.0, at.1, subst (λ (n : ℕ). AreFirstDeposited v n []) (sym none) ((no_deposits guest).each v lt));
 }
 
--- an op, with the pushes behind it
+-- an op, with the pushes after it
 pub op_keeps_all : (guest : Guest) (v : ℕ) (past : List Event) (collected : List Collected)
     → harvests.AllDeposited guest past collected → harvests.AllDeposited guest (after_op guest v past) collected
 op_keeps_all guest v past collected first =

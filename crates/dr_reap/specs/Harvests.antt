@@ -35,16 +35,16 @@ pub record IsPart (v : ℕ) (past : List Event) (old new : List Collected) (r : 
   pub whole : pushes v past ≤ handed_of new v
 
 -- What is harvested for a reap, where a collector goes from these numbers to those: of each vCPU
--- that is reaped the list has one range, from its number before to that behind, which is the number
+-- that is reaped the list has one range, from its number before to that after, which is the number
 -- of pushes or more. Of the others it has none, and their numbers stay.
-pub record AreHarvested (guest : Guest) (whose : Option ℕ) (before behind : ℕ → ℕ) (rs : List Range)
+pub record AreHarvested (guest : Guest) (whose : Option ℕ) (before after : ℕ → ℕ) (rs : List Range)
     (past : List Event) : Type 0 where
   pub each : (v : ℕ) → v < vcpu_count guest
       → of_vcpu v rs
-      ≡ (if is_reaped whose v then range_of v (before v) (behind v - before v) ∷ [] else [])
-  pub onward : (v : ℕ) → v < vcpu_count guest → before v ≤ behind v
-  pub whole : (v : ℕ) → v < vcpu_count guest → is_reaped whose v ≡ true → pushes v past ≤ behind v
-  pub others : (v : ℕ) → v < vcpu_count guest → is_reaped whose v ≡ false → behind v ≡ before v
+      ≡ (if is_reaped whose v then range_of v (before v) (after v - before v) ∷ [] else [])
+  pub onward : (v : ℕ) → v < vcpu_count guest → before v ≤ after v
+  pub whole : (v : ℕ) → v < vcpu_count guest → is_reaped whose v ≡ true → pushes v past ≤ after v
+  pub others : (v : ℕ) → v < vcpu_count guest → is_reaped whose v ≡ false → after v ≡ before v
 
 -- notes of these rings' kernel seats, in their order: each has all that its vCPU pushed
 pub record AreNotes (rings : List TableId) (past : List Event)

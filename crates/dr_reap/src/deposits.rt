@@ -1,9 +1,10 @@
-ghost use Rattle.std.specs.Prelude.{◌≡◌, ◌<◌, ◌+◌, ◌==◌, ℕ, [], ◌∷◌, false};
-ghost use Rattle.std.specs.Prelude.{map, length, None, IfSome, OnOk, OnErr};
+ghost use Rattle.std.specs.Prelude.{◌≡◌, ◌<◌, ◌==◌, ℕ, [], ◌∷◌, false};
+ghost use Rattle.std.specs.Prelude.{length, None, IfSome, OnOk, OnErr};
 ghost use Rattle.dr_types.specs.Scripts.{vcpu_count};
-ghost use Rattle.dr_bench.specs.Bench.{SameOutlet};
-ghost use Rattle.dr_schedule_law.specs.Settled.{range_of, of_vcpu, in_order, deposited_one};
+ghost use Rattle.dr_bench.specs.Bench.{SameStanding};
+ghost use Rattle.dr_schedule_law.specs.Settled.{of_vcpu, in_order, deposited_one};
 ghost use Rattle.dr_schedule_law.specs.Settled.{deposited_all, DepositsPart, IsFresh};
+ghost use Rattle.dr_reap.specs.Batches.{range_of_batch, ranges_of};
 
 use dr_bench::Bench;
 use dr_io::Outlet;
@@ -14,20 +15,15 @@ use dr_types::Memory;
 
 /// Takes the first batch of a vCPU out of a list.
 pub fn take_first<N: Name>(batches: &mut Vec<Batch<N>>, v: u32) -> Option<Batch<N>>
-    ensures some { let old =
-        map (λ b. range_of b.vcpu b.first (length b.entries)) batches.old.items in
-        let new =
-        map (λ b. range_of b.vcpu b.first (length b.entries)) batches.new.items in
+    ensures some { let old = ranges_of batches.old.items in
+        let new = ranges_of batches.new.items in
         IfSome result (λ b. of_vcpu v old
-        ≡ range_of b.vcpu b.first (length b.entries) ∷ of_vcpu v new) }
+        ≡ range_of_batch b ∷ of_vcpu v new) }
     ensures fewer { IfSome result (λ b. length batches.new.items < length batches.old.items) }
-    ensures others { let old =
-        map (λ b. range_of b.vcpu b.first (length b.entries)) batches.old.items in
-        let new =
-        map (λ b. range_of b.vcpu b.first (length b.entries)) batches.new.items in
+    ensures others { let old = ranges_of batches.old.items in
+        let new = ranges_of batches.new.items in
         (w : ℕ) → (w == v) ≡ false → of_vcpu w new ≡ of_vcpu w old }
-    ensures none { let old =
-        map (λ b. range_of b.vcpu b.first (length b.entries)) batches.old.items in
+    ensures none { let old = ranges_of batches.old.items in
         result ≡ None → of_vcpu v old ≡ [] }
 {
     for i in 0..batches.len() {
@@ -44,12 +40,11 @@ pub fn deposit_one<N: Name, O: Outlet>(
     rings: &Rings<N>,
     batch: Batch<N>,
 ) -> Result<(), Memory>
-    ensures past { let range = range_of batch.vcpu batch.first (length batch.entries) in
+    ensures past { let range = range_of_batch batch in
         OnOk result (bench.new.past ≡ deposited_one range bench.old.past) }
-    ensures over { bench.new.over ≡ bench.old.over }
-    ensures outlet { SameOutlet bench.old bench.new }
+    ensures standing { SameStanding bench.old bench.new }
     ensures err { OnErr result (bench.new ≡ bench.old) }
-    ensures fresh { let range = range_of batch.vcpu batch.first (length batch.entries) in
+    ensures fresh { let range = range_of_batch batch in
         OnErr result (IsFresh range bench.old.past) }
 {
     if batch.is_empty() {
@@ -70,18 +65,13 @@ pub fn deposit_of<N: Name, O: Outlet>(
     batches: &mut Vec<Batch<N>>,
     v: u32,
 ) -> Result<(), Memory>
-    ensures past { let old =
-        map (λ b. range_of b.vcpu b.first (length b.entries)) batches.old.items in
+    ensures past { let old = ranges_of batches.old.items in
         OnOk result (bench.new.past ≡ deposited_all (of_vcpu v old) bench.old.past) }
-    ensures others { let old =
-        map (λ b. range_of b.vcpu b.first (length b.entries)) batches.old.items in
-        let new =
-        map (λ b. range_of b.vcpu b.first (length b.entries)) batches.new.items in
+    ensures others { let old = ranges_of batches.old.items in
+        let new = ranges_of batches.new.items in
         (w : ℕ) → (w == v) ≡ false → of_vcpu w new ≡ of_vcpu w old }
-    ensures over { bench.new.over ≡ bench.old.over }
-    ensures outlet { SameOutlet bench.old bench.new }
-    ensures part { let old =
-        map (λ b. range_of b.vcpu b.first (length b.entries)) batches.old.items in
+    ensures standing { SameStanding bench.old bench.new }
+    ensures part { let old = ranges_of batches.old.items in
         OnErr result (DepositsPart (of_vcpu v old) bench.old.past bench.new.past) }
 {
     while let Some(batch) = take_first(batches, v) {
@@ -97,14 +87,11 @@ pub fn deposit_all<N: Name, O: Outlet>(
     rings: &Rings<N>,
     batches: &mut Vec<Batch<N>>,
 ) -> Result<(), Memory>
-    ensures past { let old =
-        map (λ b. range_of b.vcpu b.first (length b.entries)) batches.old.items in
+    ensures past { let old = ranges_of batches.old.items in
         OnOk result
         (bench.new.past ≡ deposited_all (in_order (vcpu_count N.guest) old) bench.old.past) }
-    ensures over { bench.new.over ≡ bench.old.over }
-    ensures outlet { SameOutlet bench.old bench.new }
-    ensures part { let old =
-        map (λ b. range_of b.vcpu b.first (length b.entries)) batches.old.items in
+    ensures standing { SameStanding bench.old bench.new }
+    ensures part { let old = ranges_of batches.old.items in
         OnErr result
         (DepositsPart (in_order (vcpu_count N.guest) old) bench.old.past bench.new.past) }
 {

@@ -1,7 +1,7 @@
-ghost use Rattle.std.specs.Prelude.{◌≡◌, ◌<◌, ◌≤◌, ◌+◌, ◌-◌, ◌≢◌, ℕ, map, length, Some, None, IfOk};
+ghost use Rattle.std.specs.Prelude.{◌≡◌, ◌<◌, ◌-◌, ◌≢◌, ℕ, length, Some, None, IfOk};
 ghost use Rattle.dr_types.specs.Scripts.{vcpu_count};
-ghost use Rattle.dr_schedule_law.specs.Settled.{range_of};
 ghost use Rattle.dr_reap.specs.Harvests.{AreHarvested, AllDeposited, IsPart, handed_of};
+ghost use Rattle.dr_reap.specs.Batches.{range_of_batch, ranges_of};
 
 use crate::notes::{note_of, notes_of};
 use dr_bench::Bench;
@@ -23,7 +23,7 @@ pub fn harvest_all<N: Name, O: Outlet>(
     ensures stays { bench.new ≡ bench.old }
     ensures seats { length collector.new ≡ vcpu_count N.guest }
     ensures ranges { IfOk result (λ bs. AreHarvested N.guest None (handed_of collector.old)
-        (handed_of collector.new) (map (λ b. range_of b.vcpu b.first (length b.entries)) bs)
+        (handed_of collector.new) (ranges_of bs)
         bench.old.past) }
 {
     bench.recall_kept();
@@ -50,7 +50,7 @@ fn harvest_one<N: Name, O: Outlet>(
     ensures stays { bench.new ≡ bench.old }
     ensures seats { length collector.new ≡ vcpu_count N.guest }
     ensures range { IfOk result (λ b. IsPart v bench.old.past collector.old collector.new
-        (range_of b.vcpu b.first (length b.entries))) }
+        (range_of_batch b)) }
     ensures others { (u : ℕ) → u ≢ v → handed_of collector.new u ≡ handed_of collector.old u }
 {
     bench.recall_kept();
@@ -75,7 +75,7 @@ pub fn harvest_list<N: Name, O: Outlet>(
     ensures stays { bench.new ≡ bench.old }
     ensures seats { length collector.new ≡ vcpu_count N.guest }
     ensures ranges { IfOk result (λ bs. AreHarvested N.guest (Some v) (handed_of collector.old)
-        (handed_of collector.new) (map (λ b. range_of b.vcpu b.first (length b.entries)) bs)
+        (handed_of collector.new) (ranges_of bs)
         bench.old.past) }
 {
     let batch = harvest_one(bench, collector, rings, alloc, v)?;

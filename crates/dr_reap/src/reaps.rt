@@ -1,10 +1,11 @@
-ghost use Rattle.std.specs.Prelude.{◌≡◌, ◌<◌, map, length, Some, None, IfOk, OnOk, OnErr};
+ghost use Rattle.std.specs.Prelude.{◌≡◌, ◌<◌, Some, None, IfOk, OnOk, OnErr};
 ghost use Rattle.dr_types.specs.Scripts.{vcpu_count};
 ghost use Rattle.dr_history.specs.Legality.{IsLegalSoFar};
-ghost use Rattle.dr_bench.specs.Bench.{SameOutlet};
-ghost use Rattle.dr_schedule_law.specs.Settled.{range_of, Settles};
+ghost use Rattle.dr_bench.specs.Bench.{SameStanding};
+ghost use Rattle.dr_schedule_law.specs.Settled.{Settles};
 ghost use Rattle.dr_schedule_law.specs.Reaps.{reaped, Extends};
 ghost use Rattle.dr_reap.specs.Harvests.{AllDeposited, SettlesCut};
+ghost use Rattle.dr_reap.specs.Batches.{ranges_of};
 
 use crate::harvests::{harvest_all, harvest_list};
 use crate::settling::settle;
@@ -16,7 +17,7 @@ use dr_ring_set::{BatchList, Rings};
 use dr_types::Memory;
 use std::alloc::Global;
 
-/// A settling, before and behind which all that happened is legal.
+/// A settling, before and after which all that happened is legal.
 #[tactic(auto, unfolding(crate::specs::Harvests::SettlesCut))]
 fn settle_legal<N: Name, O: Outlet>(
     bench: &mut Bench<N, O>,
@@ -25,14 +26,11 @@ fn settle_legal<N: Name, O: Outlet>(
 ) -> Result<u32, Memory>
     ensures first { IsLegalSoFar N.guest bench.old.past }
     ensures last { IsLegalSoFar N.guest bench.new.past }
-    ensures settles { let ranges =
-        map (λ b. range_of b.vcpu b.first (length b.entries)) batches in
-        IfOk result (Settles N.guest ranges bench.old.past bench.new.past) }
-    ensures over { bench.new.over ≡ bench.old.over }
-    ensures outlet { SameOutlet bench.old bench.new }
-    ensures part { let ranges =
-        map (λ b. range_of b.vcpu b.first (length b.entries)) batches in
-        OnErr result (SettlesCut N.guest ranges bench.old.past bench.new.past) }
+    ensures settles { IfOk result
+        (Settles N.guest (ranges_of batches) bench.old.past bench.new.past) }
+    ensures standing { SameStanding bench.old bench.new }
+    ensures part { OnErr result
+        (SettlesCut N.guest (ranges_of batches) bench.old.past bench.new.past) }
 {
     bench.recall_kept();
     let count = settle(bench, rings, batches);
@@ -53,8 +51,7 @@ pub fn reap_all<N: Name, O: Outlet>(
     requires { AllDeposited N.guest bench.old.past collector.old }
     ensures ok { OnOk result (bench.new.past ≡ reaped N.guest None bench.old.past) }
     ensures all_deposited { OnOk result (AllDeposited N.guest bench.new.past collector.new) }
-    ensures over { bench.new.over ≡ bench.old.over }
-    ensures outlet { SameOutlet bench.old bench.new }
+    ensures standing { SameStanding bench.old bench.new }
     ensures begun { OnErr result (Extends bench.old.past bench.new.past) }
     ensures part { OnErr result (Extends bench.new.past (reaped N.guest None bench.old.past)) }
 {
@@ -76,8 +73,7 @@ pub fn reap_one<N: Name, O: Outlet>(
     requires all_deposited { AllDeposited N.guest bench.old.past collector.old }
     ensures ok { OnOk result (bench.new.past ≡ reaped N.guest (Some v) bench.old.past) }
     ensures all_deposited { OnOk result (AllDeposited N.guest bench.new.past collector.new) }
-    ensures over { bench.new.over ≡ bench.old.over }
-    ensures outlet { SameOutlet bench.old bench.new }
+    ensures standing { SameStanding bench.old bench.new }
     ensures begun { OnErr result (Extends bench.old.past bench.new.past) }
     ensures part { OnErr result
         (Extends bench.new.past (reaped N.guest (Some v) bench.old.past)) }

@@ -1,10 +1,10 @@
-ghost use Rattle.std.specs.Prelude.{◌≡◌, ◌<◌, ◌≤◌, ◌*◌, ◌∷◌, true, false, if◌then◌else◌, IfOk};
-ghost use Rattle.std.specs.Prelude.{OnOk, OnErr};
+ghost use Rattle.std.specs.Prelude.{◌≡◌, ◌<◌, ◌≤◌, ◌∷◌, true, false, IfOk};
+ghost use Rattle.std.specs.Prelude.{OnErr};
 ghost use Rattle.dr_types.specs.Scripts.{vcpu_count};
 ghost use Rattle.dr_history.specs.declared.event.Event.{Event};
 ghost use Rattle.dr_history.specs.Entries.{resets};
 ghost use Rattle.dr_turns_law.specs.Deposits.{next_deposited};
-ghost use Rattle.dr_bench.specs.Bench.{SameOutlet};
+ghost use Rattle.dr_bench.specs.Bench.{SameStanding};
 ghost use Rattle.dr_schedule_law.specs.Settled.{ResetsAll, ResetsBelow, ResetsPart, ResetsSome};
 
 use dr_bench::Bench;
@@ -34,8 +34,7 @@ fn reset_one<N: Name, O: Outlet>(
         → bench.new.past ≡ Event.Reset v (resets v bench.old.past) ∷ bench.old.past) }
     ensures none { IfOk result (λ some. some ≡ false → bench.new.past ≡ bench.old.past) }
     ensures few { resets v bench.new.past ≤ 200001 }
-    ensures over { bench.new.over ≡ bench.old.over }
-    ensures outlet { SameOutlet bench.old bench.new }
+    ensures standing { SameStanding bench.old bench.new }
     ensures err { OnErr result (bench.new ≡ bench.old) }
     ensures needed { OnErr result (next_deposited v bench.old.past ≡ true) }
 {
@@ -54,8 +53,7 @@ fn reset_of<N: Name, O: Outlet>(
     requires { v < vcpu_count N.guest }
     ensures all { IfOk result (λ n. ResetsAll v bench.old.past bench.new.past n) }
     ensures few { IfOk result (λ n. n ≤ 200001) }
-    ensures over { bench.new.over ≡ bench.old.over }
-    ensures outlet { SameOutlet bench.old bench.new }
+    ensures standing { SameStanding bench.old bench.new }
     ensures part { OnErr result (ResetsSome v bench.old.past bench.new.past) }
 {
     recall_few(bench, v);
@@ -75,8 +73,7 @@ pub fn reset_all<N: Name, O: Outlet>(
 ) -> Result<u32, Memory>
     ensures all { IfOk result
         (λ n. ResetsBelow (vcpu_count N.guest) bench.old.past bench.new.past n) }
-    ensures over { bench.new.over ≡ bench.old.over }
-    ensures outlet { SameOutlet bench.old bench.new }
+    ensures standing { SameStanding bench.old bench.new }
     ensures part { OnErr result
         (ResetsPart (vcpu_count N.guest) bench.old.past bench.new.past) }
 {

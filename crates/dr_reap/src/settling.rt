@@ -1,6 +1,7 @@
-ghost use Rattle.std.specs.Prelude.{◌≡◌, map, length, IfOk, OnErr};
-ghost use Rattle.dr_bench.specs.Bench.{SameOutlet};
-ghost use Rattle.dr_schedule_law.specs.Settled.{range_of, Settles, SettlesPart};
+ghost use Rattle.std.specs.Prelude.{IfOk, OnErr};
+ghost use Rattle.dr_bench.specs.Bench.{SameStanding};
+ghost use Rattle.dr_schedule_law.specs.Settled.{Settles, SettlesPart};
+ghost use Rattle.dr_reap.specs.Batches.{ranges_of};
 
 use crate::deposits::deposit_all;
 use crate::resets::reset_all;
@@ -11,20 +12,17 @@ use dr_ring_set::{Batch, BatchList, Rings};
 use dr_types::Memory;
 
 /// Settles batches that are still in a `Vec`.
-#[tactic(auto, using(crate::proofs::Outlets::outlet_then))]
+#[tactic(auto, using(crate::proofs::Standing::standing_then))]
 fn settle_from<N: Name, O: Outlet>(
     bench: &mut Bench<N, O>,
     rings: &Rings<N>,
     batches: &mut Vec<Batch<N>>,
 ) -> Result<u32, Memory>
-    ensures settles { let ranges =
-        map (λ b. range_of b.vcpu b.first (length b.entries)) batches.old.items in
-        IfOk result (Settles N.guest ranges bench.old.past bench.new.past) }
-    ensures over { bench.new.over ≡ bench.old.over }
-    ensures outlet { SameOutlet bench.old bench.new }
-    ensures part { let ranges =
-        map (λ b. range_of b.vcpu b.first (length b.entries)) batches.old.items in
-        OnErr result (SettlesPart N.guest ranges bench.old.past bench.new.past) }
+    ensures settles { IfOk result
+        (Settles N.guest (ranges_of batches.old.items) bench.old.past bench.new.past) }
+    ensures standing { SameStanding bench.old bench.new }
+    ensures part { OnErr result
+        (SettlesPart N.guest (ranges_of batches.old.items) bench.old.past bench.new.past) }
 {
     deposit_all(bench, rings, batches)?;
     let count = reset_all(bench, rings)?;
@@ -45,14 +43,11 @@ pub fn settle<N: Name, O: Outlet>(
     rings: &Rings<N>,
     batches: BatchList<N>,
 ) -> Result<u32, Memory>
-    ensures settles { let ranges =
-        map (λ b. range_of b.vcpu b.first (length b.entries)) batches in
-        IfOk result (Settles N.guest ranges bench.old.past bench.new.past) }
-    ensures over { bench.new.over ≡ bench.old.over }
-    ensures outlet { SameOutlet bench.old bench.new }
-    ensures part { let ranges =
-        map (λ b. range_of b.vcpu b.first (length b.entries)) batches in
-        OnErr result (SettlesPart N.guest ranges bench.old.past bench.new.past) }
+    ensures settles { IfOk result
+        (Settles N.guest (ranges_of batches) bench.old.past bench.new.past) }
+    ensures standing { SameStanding bench.old bench.new }
+    ensures part { OnErr result
+        (SettlesPart N.guest (ranges_of batches) bench.old.past bench.new.past) }
 {
     let mut batches = batches.into_vec();
     settle_from(bench, rings, &mut batches)

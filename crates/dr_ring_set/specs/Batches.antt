@@ -9,7 +9,7 @@ StandFrom first entries whole =
     (k : ℕ) (e : Entry) → slice_get entries k ≡ Some e → slice_get whole (first + k) ≡ Some e
 
 -- a batch: its vCPU, the number of its first entry, its entries, and the user seat's note that was
--- taken behind them
+-- taken after them
 pub record BatchView : Type 0 where
   pub vcpu : ℕ
   pub first : ℕ

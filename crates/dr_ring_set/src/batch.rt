@@ -7,7 +7,7 @@ use dr_ring::{Name, Note};
 use std::marker::PhantomData;
 
 /// Entries of vCPU `vcpu` that were harvested one after the other, the first of them with number
-/// `first`, and the note of its user seat that was taken behind their harvest.
+/// `first`, and the note of its user seat that was taken after their harvest.
 #[derive(Drop)]
 pub struct Batch<N: Name> {
     pub vcpu: u32,

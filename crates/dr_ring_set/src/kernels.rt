@@ -98,6 +98,13 @@ impl<N: Name> KernelSeats<N> {
         self.seats[v as usize].learn(&rings.rings[v as usize], note);
     }
 
+    /// Each seat is of its vCPU's ring.
+    pub fn recall_named(&self)
+        ensures { map ring_of_kernel self.now ≡ N.rings }
+    {
+        let _recall_seats = &self.seats;
+    }
+
     /// The same seats without the name, in the order of the vCPUs.
     pub fn into_seats(self) -> KernelSeatList
         ensures seats { result ≡ self }

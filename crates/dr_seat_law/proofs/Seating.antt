@@ -86,7 +86,7 @@ same n = eq-eqb n n refl
 other : (w v : ℕ) → w ≢ v → (v == w) ≡ false
 other w v ne = ne_eqb v w (λ e. ne (sym e))
 
--- the vCPU's next entry stands behind those that were pushed
+-- the vCPU's next entry stands after those that were pushed
 next_entry : (guest : Guest) (past : List Event) (v k : ℕ) (e : Entry) → k ≡ pushes v past → entry guest v k past ≡ Some e
     → first_entries guest v (pushes v past) past ++ some e ∷ [] ≡ first_entries guest v (pushes v past + 1) past
 next_entry guest past v k e number is =

@@ -1,4 +1,4 @@
-use Rattle.std.proofs.Common.{ap}
+use Rattle.std.proofs.Common.{ap, arith}
 use Rattle.std.proofs.lemmas.Result.{on_err_weaker}
 use Rattle.dr_turns_law.specs.Deposits.{next_deposited}
 use Rattle.dr_machine.specs.Views.{MachineView}
@@ -20,4 +20,4 @@ returns-clause-others g c = λ u ne.
     (λ none. ap (λ (s : MachineView). s.past) (turn.stays none)) turn.appended (on_err_weaker c.reset_turn-count.result (λ same. ap (λ (s : MachineView). s.past) same) turn.err)
 
 pub returns-clause-seat : goal.returns-clause-seat
-returns-clause-seat g c = seat_reset g.N.Name.guest c.reset_turn-count.new.self.past c.reset_turn-count.new.self.seats c.args.v c.recall_kept.ensures.seats
+returns-clause-seat g c = seat_reset g.N.Name.guest c.reset_turn-count.new.self.past c.reset_turn-count.new.self.seats c.args.v (omega (arith, c.requires, c.recall_kept.ensures.one_each)) c.recall_kept.ensures.seats

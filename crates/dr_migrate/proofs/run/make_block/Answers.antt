@@ -4,10 +4,10 @@ use Rattle.dr_migrate.proofs.run.make_block.Goals as goal
 
 pub returns-in_err-end-clause-times : goal.returns-in_err-end-clause-times
 returns-in_err-end-clause-times g c =
-    let reads = g.C.Clock.reads c.args.clock.now in
+    let reads = g.C.Clock.reads c.args.context.now.clock.now in
     let old = c.args.bench.now.past in
     let mid = c.advance.new.bench.past in
-    same_read reads old mid c.wait.new.bench.past (time_read reads c.now_us-now.result old mid c.now_us-now.ensures c.in_ok-due.ensures.times) c.in_err-end.ensures.waited.timeless
+    same_read reads old mid c.wait.new.bench.past (time_read reads c.now_us.result old mid c.now_us.ensures c.in_ok-due.ensures.times) c.in_err-end.ensures.waited.timeless
 
 pub returns-clause-made_block : goal.returns-clause-made_block
 returns-clause-made_block g c =
@@ -19,10 +19,10 @@ returns-clause-made_block g c =
 
 pub returns-in_err-due-clause-times : goal.returns-in_err-due-clause-times
 returns-in_err-due-clause-times g c =
-    time_read (g.C.Clock.reads c.args.clock.now) c.now_us-now.result c.args.bench.now.past
-    c.advance.new.bench.past c.now_us-now.ensures c.in_err-due.ensures.times
+    time_read (g.C.Clock.reads c.args.context.now.clock.now) c.now_us.result c.args.bench.now.past
+    c.advance.new.bench.past c.now_us.ensures c.in_err-due.ensures.times
 
 pub returns-then-appends-clause-times : goal.returns-then-appends-clause-times
 returns-then-appends-clause-times g c =
-    time_read (g.C.Clock.reads c.args.clock.now) c.now_us-now.result c.args.bench.now.past
-    c.advance.new.bench.past c.now_us-now.ensures c.in_ok-due.ensures.times
+    time_read (g.C.Clock.reads c.args.context.now.clock.now) c.now_us.result c.args.bench.now.past
+    c.advance.new.bench.past c.now_us.ensures c.in_ok-due.ensures.times

@@ -9,32 +9,32 @@ use Rattle.dr_migrate.proofs.waits.run_vcpu.Goals as goal
 
 pub execute-requires-clause-awaits : goal.execute-requires-clause-awaits
 execute-requires-clause-awaits g c κs within =
-    not_paced g.N.Name.guest c.args.now c.args.bench.now.past c.args.v c.args.done c.recall_kept.ensures.legal.0 c.requires.answer
+    not_paced g.N.Name.guest c.requires.due.now c.args.bench.now.past c.args.v c.args.done c.recall_kept.ensures.legal.0 c.requires.due.answer
 
 pub returns-clause-moves : goal.returns-clause-moves
 returns-clause-moves g c =
     let guest = g.N.Name.guest in
     let old = c.args.bench.now.past in
     let handed = handed_of c.args.collector.now in
-    let it : WaitsForOp guest c.args.now c.args.v c.args.done old handed = record {
+    let it : WaitsForOp guest c.requires.due.now c.args.v c.args.done old handed = record {
       valid = subst IsValid c.guest-recall_guest.ensures.is c.guest-recall_guest.ensures.valid;
       legal = c.recall_kept.ensures.legal.0;
-      answer = c.requires.answer;
-      awaits = not_paced guest c.args.now old c.args.v c.args.done c.recall_kept.ensures.legal.0 c.requires.answer;
+      answer = c.requires.due.answer;
+      awaits = not_paced guest c.requires.due.now old c.args.v c.args.done c.recall_kept.ensures.legal.0 c.requires.due.answer;
       all_deposited = in_numbers guest old c.args.collector.now c.requires.going.all_deposited;
     } in
-    on_ok_weaker c.execute.result (acts_move guest c.args.now c.args.v c.args.done old c.execute.new.bench.past handed it) c.execute.ensures.done
+    on_ok_weaker c.execute.result (acts_move guest c.requires.due.now c.args.v c.args.done old c.execute.new.bench.past handed it) c.execute.ensures.done
 
 pub returns-clause-breaks : goal.returns-clause-breaks
 returns-clause-breaks g c =
     let guest = g.N.Name.guest in
     let old = c.args.bench.now.past in
     let handed = handed_of c.args.collector.now in
-    let it : WaitsForOp guest c.args.now c.args.v c.args.done old handed = record {
+    let it : WaitsForOp guest c.requires.due.now c.args.v c.args.done old handed = record {
       valid = subst IsValid c.guest-recall_guest.ensures.is c.guest-recall_guest.ensures.valid;
       legal = c.recall_kept.ensures.legal.0;
-      answer = c.requires.answer;
-      awaits = not_paced guest c.args.now old c.args.v c.args.done c.recall_kept.ensures.legal.0 c.requires.answer;
+      answer = c.requires.due.answer;
+      awaits = not_paced guest c.requires.due.now old c.args.v c.args.done c.recall_kept.ensures.legal.0 c.requires.due.answer;
       all_deposited = in_numbers guest old c.args.collector.now c.requires.going.all_deposited;
     } in
-    on_err_weaker c.execute.result (acts_break guest c.args.now c.args.v c.args.done old c.execute.new.bench.past handed it) c.execute.ensures.part
+    on_err_weaker c.execute.result (acts_break guest c.requires.due.now c.args.v c.args.done old c.execute.new.bench.past handed it) c.execute.ensures.part

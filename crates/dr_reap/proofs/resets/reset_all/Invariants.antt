@@ -1,5 +1,5 @@
 use Rattle.std.proofs.Common.{◌≡◌, ◌≤◌, ◌*◌}
-use Rattle.dr_bench.specs.Bench.{SameOutlet}
+use Rattle.dr_bench.specs.Bench.{SameStanding}
 use Rattle.dr_schedule_law.specs.Settled.{ResetsBelow}
 use Rattle.dr_reap.proofs.resets.reset_all.Given as goal
 
@@ -7,6 +7,5 @@ abbrev pub invariant-loop-v : goal.invariant-loop-v
 invariant-loop-v g l = record {
   below : ResetsBelow l.v l.initial.bench.past l.bench.past l.total;
   few : l.total ≤ 200001 * l.v;
-  over : l.bench.over ≡ l.initial.bench.over;
-  outlet : SameOutlet l.initial.bench l.bench;
+  standing : SameStanding l.initial.bench l.bench;
 }

@@ -39,4 +39,4 @@ invariant_of-self-in-Failed g c =
     } in
     let o = c.give_up.new.self in
     subst (λ (stop : Bool). BenchKeeps guest g.N.Name.ports g.N.Name.faults (bench_of o c.put_record.new.sender true) × IsTracked o.past c.put_record.new.sender.pages stop) (sym c.stopped_after-self-inside.ensures)
-    (keeps_failed guest g.N.Name.ports g.N.Name.faults c.args.now m n o c.self.inside.sender c.put_record.new.sender c.self.inside.failed c.self.inside.stopped c.in_ok-due.due c.opens_at-opens.result c.page_count-pages.result c.self.inside.copied c.advance.new.into c.put_record.result c.self.invariant fine c.in-Failed.is due c.give_up.ensures.past c.give_up.ensures.over)
+    (keeps_failed guest g.N.Name.ports g.N.Name.faults c.args.now m n o c.self.inside.sender c.put_record.new.sender c.self.inside.failed c.self.inside.stopped c.in_ok-due.due c.opens_at-opens.result c.page_count-pages.result c.self.inside.copied c.advance.new.into c.put_record.result c.self.invariant fine c.in-Failed.is due c.give_up.ensures)
