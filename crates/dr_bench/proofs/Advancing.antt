@@ -6,7 +6,6 @@ use Rattle.std.proofs.lemmas.Bool.{false≢true}
 use Rattle.std.proofs.lemmas.List.{append-nil}
 use Rattle.dr_types.specs.declared.guest.Guest.{Guest}
 use Rattle.dr_types.specs.declared.port.Port.TheVariants.{Stream}
-use Rattle.dr_types.specs.Pages.{page_count}
 use Rattle.dr_types.specs.Ports.{Ports, put_at, Rose}
 use Rattle.dr_types.specs.Scripts.{vcpu_count}
 use Rattle.dr_types.proofs.Ports.{put_twice, put_none}
@@ -20,7 +19,6 @@ use Rattle.dr_history.specs.Throttles.{throttle}
 use Rattle.dr_history.specs.Vcpus.{stopped}
 use Rattle.dr_io.specs.declared.outlet.PutTurn.{PutTurn}
 use Rattle.dr_io.specs.declared.outlet.PutTurn.TheVariants.{Done, Failed}
-use Rattle.dr_log_turns.specs.Copies.{copied_into}
 use Rattle.dr_machine.specs.Views.{MachineView}
 use Rattle.dr_turns_law.proofs.Cases.{IsWait, advanced_cases}
 use Rattle.dr_stream.specs.Sending.{Sending, Sends}
@@ -33,22 +31,22 @@ use Rattle.dr_bench.proofs.Quiet.{quiet_silent, quiet_still, quiet_then}
 
 -- what an advance of this answer adds
 pub record AdvanceAdds (guest : Guest) (past : List Event) (a : Advance) (new : List Event) : Type 0 where
-  pub stream : (bytes : List ℕ) → stream_of guest new ≡ stream_of guest past ++ record_bytes a (opens_at guest (stopped past) a) (page_count guest) (copied_into guest past a bytes) (count is_copied past)
+  pub stream : stream_of guest new ≡ stream_of guest past ++ record_bytes guest new a (opens_at guest (stopped past) a) (count is_copied past)
   pub copied : count is_copied new ≡ pages_after a (count is_copied past)
   pub stop : stopped new ≡ cond (is_stopping a) true (stopped past)
 
 adds_nothing : (guest : Guest) (past : List Event) (a : Advance) → IsWait a → AdvanceAdds guest past a past
-adds_nothing guest past (advance.NotPaced v done) is = record { stream = λ bytes. sym (append-nil (stream_of guest past)); copied = refl; stop = refl }
-adds_nothing guest past (advance.NotOut v) is = record { stream = λ bytes. sym (append-nil (stream_of guest past)); copied = refl; stop = refl }
-adds_nothing guest past (advance.NotReset v k) is = record { stream = λ bytes. sym (append-nil (stream_of guest past)); copied = refl; stop = refl }
-adds_nothing guest past advance.NotFlushed is = record { stream = λ bytes. sym (append-nil (stream_of guest past)); copied = refl; stop = refl }
-adds_nothing guest past advance.Finished is = record { stream = λ bytes. sym (append-nil (stream_of guest past)); copied = refl; stop = refl }
-adds_nothing guest past advance.Budget is = record { stream = λ bytes. sym (append-nil (stream_of guest past)); copied = refl; stop = refl }
+adds_nothing guest past (advance.NotPaced v done) is = record { stream = sym (append-nil (stream_of guest past)); copied = refl; stop = refl }
+adds_nothing guest past (advance.NotOut v) is = record { stream = sym (append-nil (stream_of guest past)); copied = refl; stop = refl }
+adds_nothing guest past (advance.NotReset v k) is = record { stream = sym (append-nil (stream_of guest past)); copied = refl; stop = refl }
+adds_nothing guest past advance.NotFlushed is = record { stream = sym (append-nil (stream_of guest past)); copied = refl; stop = refl }
+adds_nothing guest past advance.Finished is = record { stream = sym (append-nil (stream_of guest past)); copied = refl; stop = refl }
+adds_nothing guest past advance.Budget is = record { stream = sym (append-nil (stream_of guest past)); copied = refl; stop = refl }
 adds_nothing guest past a is = absurd is
 
-adds_quiet : (guest : Guest) (past mid new : List Event) (a : Advance) → AdvanceAdds guest past a mid → IsQuiet guest mid new → AdvanceAdds guest past a new
-adds_quiet guest past mid new a adds quiet = record {
-  stream = λ bytes. quiet.stream ∙ adds.stream bytes;
+answer_quiet : (guest : Guest) (past mid new : List Event) (r n : ℕ) → AdvanceAdds guest past (advance.Answered r n) mid → IsQuiet guest mid new → AdvanceAdds guest past (advance.Answered r n) new
+answer_quiet guest past mid new r n adds quiet = record {
+  stream = quiet.stream ∙ adds.stream;
   copied = quiet.copied ∙ adds.copied;
   stop = quiet.stop ∙ adds.stop;
 }
@@ -66,8 +64,8 @@ throttled_case false guest n past = quiet_still guest past
 adds_answer : (guest : Guest) (r now : ℕ) (past : List Event) → AdvanceAdds guest past (advance.Answered r (length (dirty_pages guest past))) (answered_behind guest r now past)
 adds_answer guest r now past =
     let answer : List Event = Synced r now (dirty_pages guest past) ∷ past in
-    adds_quiet guest past answer (answered_behind guest r now past) (advance.Answered r (length (dirty_pages guest past)))
-    (record { stream = λ bytes. refl; copied = refl; stop = refl })
+    answer_quiet guest past answer (answered_behind guest r now past) r (length (dirty_pages guest past))
+    (record { stream = refl; copied = refl; stop = refl })
     (throttled_case (nat_le 1 guest.settings.quota && not (stopped past)) guest (vcpu_count guest) answer)
 
 -- of each advance
@@ -75,80 +73,76 @@ pub advance_adds : (guest : Guest) (now : ℕ) (past : List Event) → AdvanceAd
 advance_adds guest now past =
     advanced_cases (λ (p : Advance × List Event). AdvanceAdds guest past p.0 p.1) guest now past (record {
       waits = λ a is. adds_nothing guest past a is;
-      starts = λ due. record { stream = λ bytes. refl; copied = refl; stop = refl };
+      starts = λ due. record { stream = refl; copied = refl; stop = refl };
       answers = λ r due. adds_answer guest r now past;
-      copies = λ page due. record { stream = λ bytes. refl; copied = refl; stop = refl };
-      asks_last = λ on stop again. record { stream = λ bytes. refl; copied = refl; stop = refl };
-      switches = λ on stop again. record { stream = λ bytes. refl; copied = refl; stop = refl };
-      stops = λ on runs few. record { stream = λ bytes. refl; copied = refl; stop = refl };
-      asks_first = λ on runs none fewer. record { stream = λ bytes. refl; copied = refl; stop = refl };
-      asks_later = λ on runs many fewer some paced. record { stream = λ bytes. refl; copied = refl; stop = refl };
+      copies = λ page due. record { stream = refl; copied = refl; stop = refl };
+      asks_last = λ on stop again. record { stream = refl; copied = refl; stop = refl };
+      switches = λ on stop again. record { stream = refl; copied = refl; stop = refl };
+      stops = λ on runs few. record { stream = refl; copied = refl; stop = refl };
+      asks_first = λ on runs none fewer. record { stream = refl; copied = refl; stop = refl };
+      asks_later = λ on runs many fewer some paced. record { stream = refl; copied = refl; stop = refl };
     })
 
 -- what the machine did in an advance, and what its bench put
-pub record Advanced (guest : Guest) (now : ℕ) (m n : MachineView) (s t : Sending) (stop : Bool) (a : Advance) (opens : Bool) (pages : ℕ) (before bytes : List ℕ) (result : PutTurn) : Type 0 where
+pub record Advanced (guest : Guest) (now : ℕ) (m n : MachineView) (s t : Sending) (stop : Bool) (a : Advance) (opens : Bool) (result : PutTurn) : Type 0 where
   pub answer : a ≡ (advanced guest now m.past).0
   pub past : n.past ≡ (advanced guest now m.past).1
-  pub copied : bytes ≡ copied_into guest m.past a before
   pub opens_is : opens ≡ opens_at guest stop a
-  pub pages_are : pages ≡ page_count guest
-  pub sends : Sends s (record_bytes a opens pages bytes s.pages) result t (pages_after a s.pages)
+  pub sends : Sends s (record_bytes guest n.past a opens s.pages) result t (pages_after a s.pages)
 
-adds_here : (guest : Guest) (now : ℕ) (m n : MachineView) (s t : Sending) (stop : Bool) (a : Advance) (opens : Bool) (pages : ℕ) (before bytes : List ℕ) (result : PutTurn) → Advanced guest now m n s t stop a opens pages before bytes result → AdvanceAdds guest m.past a n.past
-adds_here guest now m n s t stop a opens pages before bytes result it =
+adds_here : (guest : Guest) (now : ℕ) (m n : MachineView) (s t : Sending) (stop : Bool) (a : Advance) (opens : Bool) (result : PutTurn) → Advanced guest now m n s t stop a opens result → AdvanceAdds guest m.past a n.past
+adds_here guest now m n s t stop a opens result it =
     subst (λ (xs : List Event). AdvanceAdds guest m.past a xs) (sym it.past)
     (subst (λ (b : Advance). AdvanceAdds guest m.past b (advanced guest now m.past).1) (sym it.answer) (advance_adds guest now m.past))
 
-grows : (guest : Guest) (now : ℕ) (m n : MachineView) (s t : Sending) (stop : Bool) (a : Advance) (opens : Bool) (pages : ℕ) (before bytes : List ℕ) (result : PutTurn) → IsTracked m.past s.pages stop → Advanced guest now m n s t stop a opens pages before bytes result → stream_of guest n.past ≡ stream_of guest m.past ++ record_bytes a opens pages bytes s.pages
-grows guest now m n s t stop a opens pages before bytes result track it =
-    (adds_here guest now m n s t stop a opens pages before bytes result it).stream before
+grows : (guest : Guest) (now : ℕ) (m n : MachineView) (s t : Sending) (stop : Bool) (a : Advance) (opens : Bool) (result : PutTurn) → IsTracked m.past s.pages stop → Advanced guest now m n s t stop a opens result → stream_of guest n.past ≡ stream_of guest m.past ++ record_bytes guest n.past a opens s.pages
+grows guest now m n s t stop a opens result track it =
+    (adds_here guest now m n s t stop a opens result it).stream
     ∙ ap (λ xs. stream_of guest m.past ++ xs)
-    (ap (λ b. record_bytes a (opens_at guest b a) (page_count guest) (copied_into guest m.past a before) (count is_copied m.past)) (sym track.stop)
-    ∙ ap (λ b. record_bytes a b (page_count guest) (copied_into guest m.past a before) (count is_copied m.past)) (sym it.opens_is)
-    ∙ ap (λ k. record_bytes a opens k (copied_into guest m.past a before) (count is_copied m.past)) (sym it.pages_are)
-    ∙ ap (λ xs. record_bytes a opens pages xs (count is_copied m.past)) (sym it.copied)
-    ∙ ap (record_bytes a opens pages bytes) (sym track.copied))
+    (ap (λ b. record_bytes guest n.past a (opens_at guest b a) (count is_copied m.past)) (sym track.stop)
+    ∙ ap (λ b. record_bytes guest n.past a b (count is_copied m.past)) (sym it.opens_is)
+    ∙ ap (record_bytes guest n.past a opens) (sym track.copied))
 
-tracks_advance : (guest : Guest) (now : ℕ) (m n : MachineView) (s t : Sending) (stop : Bool) (a : Advance) (opens : Bool) (pages : ℕ) (before bytes : List ℕ) (result : PutTurn) → IsTracked m.past s.pages stop → Advanced guest now m n s t stop a opens pages before bytes result → IsTracked n.past t.pages (cond (is_stopping a) true stop)
-tracks_advance guest now m n s t stop a opens pages before bytes result track it =
-    let adds = adds_here guest now m n s t stop a opens pages before bytes result it in
+tracks_advance : (guest : Guest) (now : ℕ) (m n : MachineView) (s t : Sending) (stop : Bool) (a : Advance) (opens : Bool) (result : PutTurn) → IsTracked m.past s.pages stop → Advanced guest now m n s t stop a opens result → IsTracked n.past t.pages (cond (is_stopping a) true stop)
+tracks_advance guest now m n s t stop a opens result track it =
+    let adds = adds_here guest now m n s t stop a opens result it in
     record {
       copied = it.sends.counted ∙ ap (pages_after a) track.copied ∙ sym adds.copied;
       stop = ap (λ b. cond (is_stopping a) true b) track.stop ∙ sym adds.stop;
     }
 
 -- all was put
-pub keeps_advance : (guest : Guest) (ports : Ports) (first now : ℕ) (m n : MachineView) (s t : Sending) (failed stop : Bool) (a : Advance) (opens : Bool) (pages : ℕ) (before bytes : List ℕ) (result : PutTurn) → BenchKeeps guest ports first (bench_of m s failed) × IsTracked m.past s.pages stop → failed ≡ false → result ≡ Done → Advanced guest now m n s t stop a opens pages before bytes result
+pub keeps_advance : (guest : Guest) (ports : Ports) (first now : ℕ) (m n : MachineView) (s t : Sending) (failed stop : Bool) (a : Advance) (opens : Bool) (result : PutTurn) → BenchKeeps guest ports first (bench_of m s failed) × IsTracked m.past s.pages stop → failed ≡ false → result ≡ Done → Advanced guest now m n s t stop a opens result
     → BenchKeeps guest ports first (bench_of n t failed) × IsTracked n.past t.pages (cond (is_stopping a) true stop)
-keeps_advance guest ports first now m n s t failed stop a opens pages before bytes result kept fine done it =
-    let put : List ℕ = record_bytes a opens pages bytes s.pages in
+keeps_advance guest ports first now m n s t failed stop a opens result kept fine done it =
+    let put : List ℕ = record_bytes guest n.past a opens s.pages in
     let before_le : first ≤ s.faults = kept.0.later in
     let after_le : s.faults ≤ t.faults = it.sends.puts.later in (
       record {
         whole = λ f.
             it.sends.puts.done done ∙ ap (put_at Stream put) (kept.0.whole fine) ∙ put_twice Stream (stream_of guest m.past) put ports
-            ∙ ap (λ xs. put_at Stream xs ports) (sym (grows guest now m n s t stop a opens pages before bytes result kept.1 it));
+            ∙ ap (λ xs. put_at Stream xs ports) (sym (grows guest now m n s t stop a opens result kept.1 it));
         part = λ f. absurd (false≢true (sym fine ∙ f));
         later = omega arith;
         risen = λ f. absurd (false≢true (sym fine ∙ f));
         stopped = λ f. absurd (false≢true (sym fine ∙ f));
       },
-      tracks_advance guest now m n s t stop a opens pages before bytes result kept.1 it,
+      tracks_advance guest now m n s t stop a opens result kept.1 it,
     )
 
 rose_from : (first before now : ℕ) → first ≤ before → Rose before now → Rose first now
 rose_from first before now le rose = omega arith
 
 -- a first part of it was put, and the run is given up
-pub keeps_failed : (guest : Guest) (ports : Ports) (first now : ℕ) (m n o : MachineView) (s t : Sending) (failed stop : Bool) (a : Advance) (opens : Bool) (pages : ℕ) (before bytes : List ℕ) (result : PutTurn) → BenchKeeps guest ports first (bench_of m s failed) × IsTracked m.past s.pages stop → failed ≡ false → result ≡ Failed → Advanced guest now m n s t stop a opens pages before bytes result
+pub keeps_failed : (guest : Guest) (ports : Ports) (first now : ℕ) (m n o : MachineView) (s t : Sending) (failed stop : Bool) (a : Advance) (opens : Bool) (result : PutTurn) → BenchKeeps guest ports first (bench_of m s failed) × IsTracked m.past s.pages stop → failed ≡ false → result ≡ Failed → Advanced guest now m n s t stop a opens result
     → o ≡ record n { over = true } → BenchKeeps guest ports first (bench_of o t true) × IsTracked o.past t.pages (cond (is_stopping a) true stop)
-keeps_failed guest ports first now m n o s t failed stop a opens pages before bytes result kept fine fails it is =
+keeps_failed guest ports first now m n o s t failed stop a opens result kept fine fails it is =
     let same : o.past ≡ n.past = ap (λ (x : MachineView). x.past) is in
     let over : o.over ≡ true = ap (λ (x : MachineView). x.over) is in
-    let put : List ℕ = record_bytes a opens pages bytes s.pages in
+    let put : List ℕ = record_bytes guest n.past a opens s.pages in
     let was : List ℕ = stream_of guest m.past in
     let some = it.sends.puts.failed fails in
-    let whole : stream_of guest o.past ≡ was ++ put = ap (stream_of guest) same ∙ grows guest now m n s t stop a opens pages before bytes result kept.1 it in
+    let whole : stream_of guest o.past ≡ was ++ put = ap (stream_of guest) same ∙ grows guest now m n s t stop a opens result kept.1 it in
     let before_le : first ≤ s.faults = kept.0.later in
     let after_le : s.faults ≤ t.faults = it.sends.puts.later in (
       record {
@@ -162,7 +156,7 @@ keeps_failed guest ports first now m n o s t failed stop a opens pages before by
         risen = λ f. rose_from first s.faults t.faults before_le (it.sends.puts.risen fails);
         stopped = λ f. over;
       },
-      subst (λ (xs : List Event). IsTracked xs t.pages (cond (is_stopping a) true stop)) (sym same) (tracks_advance guest now m n s t stop a opens pages before bytes result kept.1 it),
+      subst (λ (xs : List Event). IsTracked xs t.pages (cond (is_stopping a) true stop)) (sym same) (tracks_advance guest now m n s t stop a opens result kept.1 it),
     )
 
 done_failed : Done ≡ Failed → ⊥

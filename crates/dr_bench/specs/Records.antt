@@ -1,7 +1,10 @@
 -- What an advance puts, and what it leaves where that fails.
 use Rattle.std.specs.Prelude.{◌≡◌, ℕ, ◌+◌, ◌||◌, Bool, true, false, nat_lt, if◌then◌else◌, List, []}
 use Rattle.dr_types.specs.declared.guest.Guest.{Guest}
+use Rattle.dr_types.specs.Pages.{page_count}
 use Rattle.dr_types.specs.Ports.{Rose}
+use Rattle.dr_history.specs.declared.event.Event.{Event}
+use Rattle.dr_history.specs.Memory.{page_bytes}
 use Rattle.dr_history.specs.Stream.{header, round_record, page_record, end_record}
 use Rattle.dr_turns.specs.Due.{advanced}
 use Rattle.dr_turns.specs.declared.answers.Advance.{Advance}
@@ -25,14 +28,15 @@ abbrev pub opens_at : Guest → Bool → Advance → Bool
 opens_at guest stop (advance.Answered r pages) = nat_lt guest.settings.threshold pages || stop
 opens_at guest stop a = false
 
--- what an advance of this answer puts: `opens` where it opens a round, `pages` as the guest has,
--- `bytes` of the page that was copied, and `sent` pages before
-abbrev pub record_bytes : Advance → Bool → ℕ → List ℕ → ℕ → List ℕ
-record_bytes advance.Started opens pages bytes sent = header pages
-record_bytes (advance.Answered r n) opens pages bytes sent = if opens then round_record r else []
-record_bytes (advance.Copied r page) opens pages bytes sent = page_record page bytes
-record_bytes advance.Switched opens pages bytes sent = end_record sent
-record_bytes a opens pages bytes sent = []
+-- what an advance of this answer puts, with the events after it: `opens` where it opens a round, and
+-- `sent` pages before
+abbrev pub record_bytes : Guest → List Event → Advance → Bool → ℕ → List ℕ
+record_bytes guest past advance.Started opens sent = header (page_count guest)
+record_bytes guest past (advance.Answered r n) opens sent = if opens then round_record r else []
+record_bytes guest past (advance.Copied r page) opens sent =
+    page_record page (page_bytes guest page past)
+record_bytes guest past advance.Switched opens sent = end_record sent
+record_bytes guest past a opens sent = []
 
 -- how many pages were put then
 abbrev pub pages_after : Advance → ℕ → ℕ

@@ -24,10 +24,8 @@ use crate::records::{opens_at, put_record, stopped_after};
 use dr_history::History;
 use dr_io::{Outlet, PutTurn};
 use dr_machine::{DepositFault, Machine};
-use dr_memory::PageBytes;
 use dr_ring::{Name, Note};
 use dr_ring_set::{Batch, Rings};
-use dr_slots::page_count;
 use dr_stream::Sender;
 use dr_turns::{Advance, RunEnd, Turn};
 use dr_types::{Guest, Memory, Why};
@@ -61,7 +59,6 @@ impl From<Memory> for BenchFault {
 pub struct Bench<N: Name, O: Outlet> {
     machine: Machine<N>,
     sender: Sender<O>,
-    copied: PageBytes,
     stopped: bool,
     failed: bool,
 }
@@ -95,7 +92,6 @@ impl<N: Name, O: Outlet> Bench<N, O> {
         Bench {
             machine,
             sender: Sender::new(out),
-            copied: PageBytes::new(),
             stopped: false,
             failed: false,
         }
@@ -213,13 +209,12 @@ impl<N: Name, O: Outlet> Bench<N, O> {
         ensures fault { IfErr result (AdvanceFails N.guest now self.old self.new) }
     {
         self.recall_room();
-        let pages = page_count(self.machine.guest());
         // Copy, clearing and record are one turn: a write comes before all of it and is sent, or
         // after all of it and makes the page dirty again.
-        let due = self.machine.advance(now, &mut self.copied)?;
+        let due = self.machine.make_advance(now)?;
         let opens = opens_at(self.machine.guest(), self.stopped, due);
         self.stopped = stopped_after(self.stopped, due);
-        match put_record(&mut self.sender, due, opens, pages, &self.copied) {
+        match put_record(&mut self.sender, &self.machine, due, opens) {
             PutTurn::Done => Ok(due),
             PutTurn::Failed => {
                 self.failed = true;

@@ -1,9 +1,12 @@
 ghost use Rattle.std.specs.Prelude.{◌≡◌, ◌<◌, ◌-◌, ◌^◌, true, if◌then◌else◌};
 ghost use Rattle.dr_bench.specs.Records.{is_stopping, opens_at, record_bytes, pages_after};
+ghost use Rattle.dr_machine.specs.Copies.{CopiesWithin};
 ghost use Rattle.dr_stream.specs.Sending.{Sends};
 
 use dr_io::{Outlet, PutTurn};
-use dr_memory::PageBytes;
+use dr_machine::Machine;
+use dr_ring::Name;
+use dr_slots::page_count;
 use dr_stream::Sender;
 use dr_turns::Advance;
 use dr_types::Guest;
@@ -30,21 +33,22 @@ pub fn opens_at(guest: &Guest, stopped: bool, due: Advance) -> bool
 
 /// Puts the record of an advance by one put, where it has one.
 #[tactic(auto, using(crate::proofs::Advancing::sends_none))]
-pub fn put_record<O: Outlet>(
+pub fn put_record<N: Name, O: Outlet>(
     sender: &mut Sender<O>,
+    machine: &Machine<N>,
     due: Advance,
     opens: bool,
-    pages: u32,
-    copied: &PageBytes,
 ) -> PutTurn
-    requires { sender.old.pages < 2 ^ 32 - 1 }
-    ensures { Sends sender.old (record_bytes due opens pages copied.now sender.old.pages) result
-        sender.new (pages_after due sender.old.pages) }
+    requires few { sender.old.pages < 2 ^ 32 - 1 }
+    requires within { CopiesWithin N.guest due }
+    ensures { let bytes = record_bytes N.guest machine.now.past due opens sender.old.pages in
+        Sends sender.old bytes result sender.new (pages_after due sender.old.pages) }
 {
     match due {
-        Advance::Started => sender.header(pages),
+        Advance::Started => sender.header(page_count(machine.guest())),
         Advance::Answered { r, pages: _ } if opens => sender.round(r),
-        Advance::Copied { r: _, page } => sender.page(page, copied.as_slice()),
+        // From the machine's own memory into the record: no page is kept between.
+        Advance::Copied { r: _, page } => sender.page(page, machine.page(page)),
         Advance::Switched => sender.finish(),
         _ => PutTurn::Done,
     }

@@ -8,7 +8,7 @@ ghost use Rattle.dr_turns.specs.Between.{AtTurnsEnd};
 ghost use Rattle.dr_turns.specs.Due.{answered, answered_behind, flushed_answer, some_closing};
 ghost use Rattle.dr_turns.specs.Due.{throttled_behind};
 ghost use Rattle.dr_turns.specs.Firsts.{first_kicked, first_unreset};
-ghost use Rattle.dr_log_turns.specs.Copies.{HasAnswered, IsNoCopy};
+ghost use Rattle.dr_log_turns.specs.Answered.{HasAnswered};
 
 use crate::closings::is_closing;
 use crate::searches::{first_kicked, first_unreset};
@@ -68,7 +68,6 @@ fn answer_flushed(log: &mut Log, alloc: Global, r: u32, now: u64) -> Result<Adva
     ensures answer { IfOk result (λ a. a ≡ (flushed_answer log.old.guest now r log.old.past).0) }
     ensures past { OnOk result (log.new.past
         ≡ (flushed_answer log.old.guest now r log.old.past).1) }
-    ensures quiet { IfOk result IsNoCopy }
     ensures guest { log.new.guest ≡ log.old.guest }
     ensures err { OnErr result (log.new.past ≡ log.old.past) }
 {
@@ -92,7 +91,6 @@ pub fn answer(log: &mut Log, alloc: Global, r: u32, now: u64) -> Result<Advance,
         IfOk result (λ a. a ≡ (answered guest now r past (first_kicked guest past)).0) }
     ensures past { let guest = log.old.guest in let past = log.old.past in
         OnOk result (log.new.past ≡ (answered guest now r past (first_kicked guest past)).1) }
-    ensures quiet { IfOk result IsNoCopy }
     ensures guest { log.new.guest ≡ log.old.guest }
     ensures err { OnErr result (log.new.past ≡ log.old.past) }
 {

@@ -1,7 +1,6 @@
-ghost use Rattle.std.specs.Prelude.{◌≡◌, ◌<◌, ◌≤◌, ◌+◌, max, Some, None, IfOk, IfErr, OnOk, OnErr};
+ghost use Rattle.std.specs.Prelude.{◌≡◌, ◌<◌, ◌≤◌, ◌+◌, max, Some, None, IfOk, IfErr, OnOk};
 ghost use Rattle.std.specs.Prelude.{IfSome, true};
 ghost use Rattle.dr_types.specs.Scripts.{operation, vcpu_count};
-ghost use Rattle.dr_types.specs.Pages.{soft_limit};
 ghost use Rattle.dr_history.specs.Execution.{ops};
 ghost use Rattle.dr_event_law.specs.Operations.{op_page};
 ghost use Rattle.dr_log.specs.Room.{HasEntry, has_page};

@@ -2,7 +2,6 @@ ghost use Rattle.std.specs.Prelude.{◌≡◌, ◌≤◌, ◌<◌, ◌+◌, ◌�
 ghost use Rattle.std.specs.List.{list_any};
 ghost use Rattle.dr_history.specs.declared.event.Event.{Event};
 ghost use Rattle.dr_history.specs.Kinds.{is_switched};
-ghost use Rattle.dr_history.specs.Memory.{page_bytes};
 ghost use Rattle.dr_history.specs.Protection.{started};
 ghost use Rattle.dr_history.specs.Rounds.{asks, unanswered, last_synced, few_answered};
 ghost use Rattle.dr_history.specs.Vcpus.{stopped};
@@ -10,16 +9,14 @@ ghost use Rattle.dr_event_law.specs.May.{MayFollow};
 ghost use Rattle.dr_turns.specs.Between.{AtTurnsEnd};
 ghost use Rattle.dr_turns.specs.Due.{asked, page_to_copy, round_of, after_stop, after_copies};
 ghost use Rattle.dr_turns.specs.Due.{next_round};
-ghost use Rattle.dr_log_turns.specs.Copies.{IsNoCopy};
 
 use crate::searches::first_unpaced_recently;
 use dr_history::Event;
 use dr_log::Log;
-use dr_memory::PageBytes;
 use dr_turns::Advance;
 
 /// Copies the page of the open round that is next.
-pub fn copy(log: &mut Log, page: u32, into: &mut PageBytes) -> Advance
+pub fn copy(log: &mut Log, page: u32) -> Advance
     requires end { AtTurnsEnd log.old.guest log.old.past }
     requires answered { unanswered log.old.past ≡ None }
     requires page_to_copy { page_to_copy log.old.guest log.old.past ≡ Some page }
@@ -27,12 +24,10 @@ pub fn copy(log: &mut Log, page: u32, into: &mut PageBytes) -> Advance
     ensures answer { result ≡ Advance.Copied (round_of (last_synced log.old.past)) page }
     ensures past { let r = round_of (last_synced log.old.past) in
         log.new.past ≡ Event.Copied r page ∷ log.old.past }
-    ensures into { into.new ≡ page_bytes log.old.guest page log.old.past }
     ensures guest { log.new.guest ≡ log.old.guest }
 {
     log.recall_legal();
     let r = log.answered_round();
-    log.copy_page(page, into);
     log.take(Event::Copied { r, page });
     Advance::Copied { r, page }
 }
@@ -43,7 +38,6 @@ fn ask(log: &mut Log) -> Advance
     requires events { 1 ≤ log.old.room.events }
     ensures answer { result ≡ (asked log.old.past).0 }
     ensures past { log.new.past ≡ (asked log.old.past).1 }
-    ensures quiet { IsNoCopy result }
     ensures guest { log.new.guest ≡ log.old.guest }
 {
     log.recall_legal();
@@ -63,7 +57,6 @@ fn go_on_stopped(log: &mut Log) -> Advance
     requires events { 1 ≤ log.old.room.events }
     ensures answer { result ≡ (after_stop log.old.past).0 }
     ensures past { log.new.past ≡ (after_stop log.old.past).1 }
-    ensures quiet { IsNoCopy result }
     ensures guest { log.new.guest ≡ log.old.guest }
 {
     log.recall_legal();
@@ -107,7 +100,6 @@ fn ask_next(log: &mut Log) -> Advance
     requires events { 1 ≤ log.old.room.events }
     ensures answer { result ≡ (next_round log.old.guest log.old.past).0 }
     ensures past { log.new.past ≡ (next_round log.old.guest log.old.past).1 }
-    ensures quiet { IsNoCopy result }
     ensures guest { log.new.guest ≡ log.old.guest }
 {
     log.recall_legal();
@@ -132,7 +124,6 @@ pub fn go_on(log: &mut Log) -> Advance
     requires events { 1 ≤ log.old.room.events }
     ensures answer { result ≡ (after_copies log.old.guest log.old.past).0 }
     ensures past { log.new.past ≡ (after_copies log.old.guest log.old.past).1 }
-    ensures quiet { IsNoCopy result }
     ensures guest { log.new.guest ≡ log.old.guest }
 {
     let switched = log.switched();

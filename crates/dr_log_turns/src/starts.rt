@@ -3,7 +3,6 @@ ghost use Rattle.dr_history.specs.Protection.{started};
 ghost use Rattle.dr_turns.specs.Between.{AtTurnsEnd};
 ghost use Rattle.dr_turns.specs.Due.{begun};
 ghost use Rattle.dr_turns.specs.Firsts.{first_unpaced};
-ghost use Rattle.dr_log_turns.specs.Copies.{IsNoCopy};
 
 use crate::searches::first_unpaced;
 use dr_history::Event;
@@ -20,7 +19,6 @@ pub fn begin(log: &mut Log, now: u64) -> Advance
         result ≡ (begun now log.old.past found).0 }
     ensures past { let found = first_unpaced log.old.guest log.old.past log.old.past in
         log.new.past ≡ (begun now log.old.past found).1 }
-    ensures quiet { IsNoCopy result }
     ensures guest { log.new.guest ≡ log.old.guest }
 {
     match first_unpaced(log) {

@@ -1,6 +1,5 @@
-ghost use Rattle.std.specs.Prelude.{◌≡◌, ◌<◌, ◌≤◌, false, length, replicate, slice_index, IfOk};
+ghost use Rattle.std.specs.Prelude.{◌≡◌, ◌<◌, ◌≤◌, length, replicate, slice_index, IfOk};
 ghost use Rattle.dr_types.specs.Scripts.{vcpu_count};
-ghost use Rattle.dr_history.specs.Vcpus.{stopped};
 ghost use Rattle.dr_log_turns.specs.Throttled.{AreTaken, FollowThrottles};
 
 use dr_log::Log;

@@ -4,4 +4,5 @@ pub mod Machines
 pub mod Leaving
 pub mod Depositing
 pub mod Advancing
+pub mod Copying
 pub mod Used

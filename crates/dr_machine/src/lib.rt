@@ -2,6 +2,7 @@
 //! block of events; none is judged, since each is legal by proof.
 #![tactic(auto)]
 
+mod copies;
 mod deposits;
 mod exits;
 mod kept;

@@ -14,13 +14,14 @@ ghost use Rattle.dr_turns.specs.Due.{advanced, run_end};
 ghost use Rattle.dr_turns.specs.Turns.{op_step, after_op};
 ghost use Rattle.dr_turns.specs.Turns.{all_out};
 ghost use Rattle.dr_turns_law.specs.Deposits.{first_twice};
-ghost use Rattle.dr_log_turns.specs.Copies.{copied_into};
 ghost use Rattle.dr_log_turns.specs.Throttled.{last_throttle};
 ghost use Rattle.dr_machine.specs.Answers.{ExitTurn, FlushTurn, IsNoteOf, OpTurn, ResetTurn};
 ghost use Rattle.dr_machine.specs.Answers.{TellsDeposited};
+ghost use Rattle.dr_machine.specs.Copies.{CopiesWithin, copied_into};
 ghost use Rattle.dr_machine.specs.Deposited.{DepositTurn};
 ghost use Rattle.dr_machine.specs.Tied.{AreRingsFor};
 
+use crate::copies::read_copied;
 use crate::deposits::{DepositFault, deposit_fresh};
 use crate::exits::leave;
 use crate::kept::Kept;
@@ -231,6 +232,7 @@ impl<N: Name> Machine<N> {
 
     /// Makes the advance that is due: the first of the list that applies. A page that it
     /// copies goes into the bytes.
+    #[tactic(auto, using(crate::proofs::Copying::same_bytes))]
     pub fn advance(&mut self, now: u64, into: &mut PageBytes) -> Result<Advance, Memory>
         ensures answer { IfOk result (λ a. a ≡ (advanced N.guest now self.old.past).0) }
         ensures appended { OnOk result (self.new.past ≡ (advanced N.guest now self.old.past).1) }
@@ -240,9 +242,25 @@ impl<N: Name> Machine<N> {
         ensures err { OnErr result (self.new ≡ self.old) }
         ensures kept { OnErr result (into.new ≡ into.old) }
     {
+        self.recall_kept();
+        let due = self.make_advance(now)?;
+        read_copied(&self.log, due, into);
+        Ok(due)
+    }
+
+    /// Makes the advance that is due, as `advance` does. The bytes of a page that it copies are left
+    /// to be read by `page`.
+    pub fn make_advance(&mut self, now: u64) -> Result<Advance, Memory>
+        ensures answer { IfOk result (λ a. a ≡ (advanced N.guest now self.old.past).0) }
+        ensures appended { OnOk result (self.new.past ≡ (advanced N.guest now self.old.past).1) }
+        ensures within { IfOk result (CopiesWithin N.guest) }
+        ensures seats { self.new.seats ≡ self.old.seats }
+        ensures over { self.new.over ≡ self.old.over }
+        ensures err { OnErr result (self.new ≡ self.old) }
+    {
         self.log.recall_legal();
         self.log.reserve(1)?;
-        let due = advance(&mut self.log, self.alloc, now, into)?;
+        let due = advance(&mut self.log, self.alloc, now)?;
         self.log.recall_legal();
         self.throttles.follow(&self.log, due);
         Ok(due)

@@ -22,7 +22,7 @@ use Rattle.dr_turns.specs.Between.{AtTurnsEnd}
 use Rattle.dr_turns.specs.Due.{advanced, round_of}
 use Rattle.dr_turns.specs.declared.answers.Advance.{Advance}
 use Rattle.dr_turns.specs.declared.answers.Advance.TheVariants as advance
-use Rattle.dr_log_turns.specs.Copies.{copied_into}
+use Rattle.dr_machine.specs.Copies.{copied_into}
 use Rattle.dr_machine.specs.Views.{MachineView}
 
 -- what a machine says of an advance

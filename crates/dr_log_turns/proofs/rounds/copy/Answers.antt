@@ -1,11 +1,8 @@
 use Rattle.std.proofs.Common.{sym, subst, ℕ}
 use Rattle.dr_history.specs.declared.event.Event.TheVariants.{Copied}
 use Rattle.dr_event_law.specs.May.{MayFollow}
-use Rattle.dr_turns_law.proofs.Copying.{copy_follows, left_within}
+use Rattle.dr_turns_law.proofs.Copying.{copy_follows}
 use Rattle.dr_log_turns.proofs.rounds.copy.Goals as goal
-
-pub copy_page-requires : goal.copy_page-requires
-copy_page-requires c = left_within c.args.log.now.guest c.args.log.now.past c.args.page c.recall_legal.ensures.legal c.requires.page_to_copy
 
 pub take-requires-clause-follows : goal.take-requires-clause-follows
 take-requires-clause-follows c =
