@@ -34,3 +34,7 @@ pub mod Behind
 pub mod Once
 pub mod Runs
 pub mod Ends
+pub mod Keeping
+pub mod Aside
+pub mod FullInside
+pub mod Points

@@ -51,6 +51,7 @@ unpaced_awaits guest recent past v legal answered runs first =
     let found = first_some (λ u. not (paced guest u recent past)) (vcpu_count guest) v first in
     record {
       vcpu = found.1;
+      answered = answered;
       unhalted =
           (or_parts (nat_le guest.settings.pace (count (is_op_of v) recent)) (halted v past)
           (not-true (paced guest v recent past) found.0)).1;

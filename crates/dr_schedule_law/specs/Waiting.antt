@@ -13,9 +13,11 @@ use Rattle.dr_turns.specs.Firsts.{first_kicked, first_unreset}
 use Rattle.dr_turns.specs.declared.answers.Advance.{Advance}
 use Rattle.dr_turns.specs.declared.answers.Advance.TheVariants as advance
 
--- the vCPU is to execute: nothing refuses that, unless its ring is full
+-- the vCPU is to execute, where all that was asked is answered: nothing refuses that, unless its
+-- ring is full
 pub record AwaitsOp (guest : Guest) (past : List Event) (v : ℕ) : Type 0 where
   pub vcpu : v < vcpu_count guest
+  pub answered : unanswered past ≡ None
   pub unhalted : halted v past ≡ false
   pub running : stopped past ≡ false
   pub unkicked : kicked v past ≡ false

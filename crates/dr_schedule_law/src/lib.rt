@@ -33,7 +33,7 @@ pub use spent::{
     rounds_are_spent, spent_rounds_end_the_run, spent_rounds_run_on, spent_rounds_stay_spent,
 };
 pub use tells::{
-    awaited_op_exists, budget_ends_run, finished_has_switched, full_alone_refuses,
-    not_flushed_awaits_flush, not_out_awaits_exit, not_paced_awaits_op, not_reset_awaits_reset,
-    switched_switches,
+    awaited_full_vcpu_is_inside, awaited_op_exists, budget_ends_run, finished_has_switched,
+    full_alone_refuses, not_flushed_awaits_flush, not_out_awaits_exit, not_paced_awaits_op,
+    not_reset_awaits_reset, switched_switches,
 };

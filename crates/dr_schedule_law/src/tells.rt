@@ -1,5 +1,6 @@
 //! What each answer of an advance tells.
-ghost use Rattle.std.specs.Prelude.{◌≡◌, ℕ, true, false, Some, None, List, is_some, if◌then◌else◌};
+ghost use Rattle.std.specs.Prelude.{◌≡◌, ℕ, true, false, Some, None, List, [], is_some};
+ghost use Rattle.std.specs.Prelude.{if◌then◌else◌};
 ghost use Rattle.std.specs.List.{list_any};
 ghost use Rattle.dr_types.specs.declared.guest.Guest.{Guest};
 ghost use Rattle.dr_types.specs.Pages.{soft_limit};
@@ -10,12 +11,13 @@ ghost use Rattle.dr_history.specs.Entries.{used};
 ghost use Rattle.dr_history.specs.Execution.{ops};
 ghost use Rattle.dr_history.specs.Kinds.{is_switched};
 ghost use Rattle.dr_history.specs.Legality.{IsLegalSoFar};
-ghost use Rattle.dr_history.specs.Vcpus.{is_full};
+ghost use Rattle.dr_history.specs.Vcpus.{in_guest, is_full};
 ghost use Rattle.dr_turns.specs.declared.answers.Advance.TheVariants as advance;
 ghost use Rattle.dr_turns.specs.declared.answers.RunEnd.TheVariants as end;
 ghost use Rattle.dr_turns.specs.declared.answers.Turn.TheVariants.{Full};
 ghost use Rattle.dr_turns.specs.Due.{advanced, some_closing, run_end};
 ghost use Rattle.dr_turns.specs.Turns.{refusal};
+ghost use Rattle.dr_schedule_law.specs.Schedule.{Follows};
 ghost use Rattle.dr_schedule_law.specs.Waiting.{AwaitsOp, AwaitsExit, AwaitsReset};
 
 /// At NotPaced the vCPU may execute, unless its ring is full.
@@ -37,6 +39,15 @@ pub fn awaited_op_exists()
     ensures { (guest : Guest) (past : List Event) (v : ℕ) → IsValid guest
         → IsLegalSoFar guest past → AwaitsOp guest past v
         → is_some (operation guest v (ops v past)) ≡ true }
+{}
+
+/// In a scheduled history of a valid guest, a vCPU that is to execute and whose ring is full is in
+/// the guest: an exit with a full ring is always a real one.
+pub fn awaited_full_vcpu_is_inside()
+    ensures { (guest : Guest) (now : ℕ) (past : List Event) (v done : ℕ) → IsValid guest
+        → IsLegalSoFar guest past → Follows guest [] past
+        → (advanced guest now past).0 ≡ advance.NotPaced v done → is_full guest v past ≡ true
+        → in_guest v past ≡ true }
 {}
 
 /// At NotOut the vCPU is kicked and in the guest.
