@@ -137,10 +137,15 @@ impl Guest {
         }
     }
 
-    /// The page of a guest frame.
-    fn page_of(&self, frame: u64) -> u32 {
+    /// The page of a guest frame, where a slot has it.
+    pub fn page_at(&self, frame: u64) -> Option<u32> {
         let within = |slot: &&Slot| slot.base <= frame && frame - slot.base < slot.pages;
-        self.slots.iter().find(within).map_or(0, |slot| slot.first + (frame - slot.base) as u32)
+        self.slots.iter().find(within).map(|slot| slot.first + (frame - slot.base) as u32)
+    }
+
+    /// The page of a guest frame that is in a slot.
+    fn page_of(&self, frame: u64) -> u32 {
+        self.page_at(frame).unwrap_or(0)
     }
 
     /// A ring is soft full from so many entries on.
