@@ -1,5 +1,5 @@
 -- A batch goes into the history, and its vCPU's seat learns that it was harvested.
-use Rattle.std.proofs.Common.{◌≡◌, ℕ, ◌+◌, ◌<◌, ◌≤◌, List, [], ◌∷◌, length, Some, sym, ap, ◌∙◌, refl, arith, length-append}
+use Rattle.std.proofs.Common.{◌≡◌, ℕ, ◌+◌, ◌<◌, ◌≤◌, List, [], ◌∷◌, length, Some, sym, ap, subst, ◌∙◌, refl, arith, length-append}
 use Rattle.std.specs.Prelude.{slice_get, None, true}
 use Rattle.std.proofs.lemmas.Option.{slice_get_within}
 use mathlib.Core.List.{IsPrefix}
@@ -8,13 +8,18 @@ use Rattle.dr_types.specs.declared.guest.Guest.{Guest}
 use Rattle.dr_types.specs.declared.guest.SlotRow.{SlotRow}
 use Rattle.dr_types.specs.declared.entry.Entry.{Entry}
 use Rattle.dr_history.specs.declared.event.Event.TheVariants.{Deposited, Reset}
+use Rattle.dr_types.specs.Scripts.{vcpu_count}
 use Rattle.dr_history.specs.Entries.{pushes}
+use Rattle.dr_history.specs.Legality.{IsLegalSoFar}
+use Rattle.dr_event_law.specs.May.{MayFollow}
 use Rattle.dr_log.specs.Views as log
 use Rattle.dr_ring.specs.Seats.{KernelView, kernel_learnt}
 use Rattle.dr_ring_set.specs.Seated.{MovesAt, IsReset}
 use Rattle.dr_ring_set.specs.Batches.{StandFrom}
 use Rattle.dr_seat_law.proofs.Seating.{seats_deposit, seats_reset, seat_counts, seat_knows}
-use Rattle.dr_turns_law.specs.Deposits.{next_deposited}
+use Rattle.dr_turns.specs.Between.{AtTurnsEnd}
+use Rattle.dr_turns_law.specs.Deposits.{next_deposited, first_twice}
+use Rattle.dr_turns_law.proofs.Depositing.{deposit_follows, deposit_ends}
 use Rattle.dr_machine.specs.Tied.{AreTied}
 
 last_at : {X : Type 0} (x : X) (xs : List X) → (y : X) × (slice_get (x ∷ xs) (length xs) ≡ Some y)
@@ -40,6 +45,18 @@ harvested_are_pushed guest rings slots log seats moved v first entries noted tie
     let b : length noted ≤ length moves.0.pushed = prefix_fits noted moves.0.pushed moves.4.1 in
     let c : length moves.0.pushed ≡ pushes v log.past = seat_counts guest log.past v moves.0 (tied.seats_are.are v moves.0 moves.2) in
     omega (arith, a, b, c)
+
+-- so a deposit of it breaks no rule, and ends a turn
+pub deposit_fits : (guest : Guest) (rings : List TableId) (slots : List SlotRow) (log : log.LogView) (seats moved : List KernelView) (v first : ℕ) (entries noted : List Entry) (ring : TableId) → AreTied guest rings slots log seats
+    → MovesAt seats moved v (λ s t. (t ≡ kernel_learnt s noted) × IsPrefix noted s.pushed) → StandFrom first entries noted → 0 < length entries → slice_get rings v ≡ Some ring → IsLegalSoFar guest log.past → AtTurnsEnd guest log.past
+    → first_twice v first log.past (first + length entries) ≡ None → MayFollow guest log.past (Deposited v first (first + length entries)) × AtTurnsEnd guest (Deposited v first (first + length entries) ∷ log.past)
+deposit_fits guest rings slots log seats moved v first entries noted ring tied moves stand some named legal end fresh =
+    let lt : v < vcpu_count guest = subst (λ (n : ℕ). v < n) tied.rings_are.one_each (slice_get_within rings v ring named) in
+    let more : first < first + length entries = omega (arith, some) in
+    let pushed = harvested_are_pushed guest rings slots log seats moved v first entries noted tied moves stand some in (
+      deposit_follows guest log.past v first (first + length entries) lt legal end more pushed fresh,
+      deposit_ends guest log.past v first (first + length entries) legal end more pushed fresh,
+    )
 
 -- what a deposit leaves
 pub ties_deposit : (guest : Guest) (rings : List TableId) (slots : List SlotRow) (old new : log.LogView) (seats moved : List KernelView) (v first : ℕ) (entries noted : List Entry) → AreTied guest rings slots old seats

@@ -31,16 +31,7 @@ ties_new guest held rings slots log seats is are slots_are log_is none new = rec
   seats_are = rw (none, new) (begin_seats guest rings);
 }
 
--- room that is made changes no tie
-pub ties_room : (guest : Guest) (rings : List TableId) (slots : List SlotRow) (old new : log.LogView) (seats : List KernelView) → AreTied guest rings slots old seats → new.guest ≡ old.guest → new.past ≡ old.past → AreTied guest rings slots new seats
-ties_room guest rings slots old new seats tied same past = record {
-  guest_is = same ∙ tied.guest_is;
-  slots_are = tied.slots_are;
-  rings_are = tied.rings_are;
-  seats_are = rw past tied.seats_are;
-}
-
--- nor does an event that pushes and resets nothing
+-- an event that pushes and resets nothing changes no tie
 pub ties_aside : (guest : Guest) (rings : List TableId) (slots : List SlotRow) (old new : log.LogView) (seats : List KernelView) (e : Event) → IsAside e → AreTied guest rings slots old seats → IsLegalSoFar old.guest old.past → MayFollow guest old.past e → new.guest ≡ old.guest → new.past ≡ e ∷ old.past → AreTied guest rings slots new seats
 ties_aside guest rings slots old new seats e aside tied legal follows same past = record {
   guest_is = same ∙ tied.guest_is;

@@ -2,14 +2,17 @@
 //! block of events; none is judged, since each is legal by proof.
 #![tactic(auto)]
 
+mod advances;
 mod copies;
 mod deposits;
+mod executions;
 mod exits;
 mod kept;
 mod machine;
 mod pushes;
 mod resets;
 mod rig;
+mod seated;
 
 pub use deposits::DepositFault;
 pub use dr_turns::{Advance, RunEnd, Turn};

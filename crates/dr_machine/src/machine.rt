@@ -1,9 +1,8 @@
-ghost use Rattle.std.specs.Prelude.{◌≡◌, ◌<◌, ◌+◌, [], true, false, map, length};
-ghost use Rattle.std.specs.Prelude.{Ok, Err, Some, None, IfOk, OnOk, OnErr};
+ghost use Rattle.std.specs.Prelude.{◌≡◌, ◌<◌, [], true, false, map, length};
+ghost use Rattle.std.specs.Prelude.{Some, IfOk, OnOk, OnErr};
 ghost use Rattle.dr_types.specs.Pages.{page_count};
 ghost use Rattle.dr_types.specs.Scripts.{operation, vcpu_count};
 ghost use Rattle.dr_types.specs.Validity.{IsValid};
-ghost use Rattle.dr_history.specs.Entries.{resets};
 ghost use Rattle.dr_history.specs.Execution.{ops};
 ghost use Rattle.dr_history.specs.Legality.{IsLegal};
 ghost use Rattle.dr_history.specs.Memory.{page_bytes};
@@ -11,9 +10,7 @@ ghost use Rattle.dr_ring.specs.Seats.{new_kernel};
 ghost use Rattle.dr_seat_law.specs.Seats.{AreSeats};
 ghost use Rattle.dr_turns.specs.Between.{AtTurnsEnd, MayTurn};
 ghost use Rattle.dr_turns.specs.Due.{advanced, run_end};
-ghost use Rattle.dr_turns.specs.Turns.{op_step, after_op};
-ghost use Rattle.dr_turns.specs.Turns.{all_out};
-ghost use Rattle.dr_turns_law.specs.Deposits.{first_twice};
+ghost use Rattle.dr_turns.specs.Turns.{all_out, op_step, after_op};
 ghost use Rattle.dr_log_turns.specs.Throttled.{last_throttle};
 ghost use Rattle.dr_machine.specs.Answers.{ExitTurn, FlushTurn, IsNoteOf, OpTurn, ResetTurn};
 ghost use Rattle.dr_machine.specs.Answers.{TellsDeposited};
@@ -22,21 +19,17 @@ ghost use Rattle.dr_machine.specs.Deposited.{DepositTurn};
 ghost use Rattle.dr_machine.specs.Tied.{AreRingsFor};
 
 use crate::copies::read_copied;
-use crate::deposits::{DepositFault, deposit_fresh};
-use crate::exits::leave;
+use crate::deposits::DepositFault;
 use crate::kept::Kept;
-use crate::pushes::push_where_full;
-use crate::resets::reset_next;
+use crate::seated::SeatedLog;
 use dr_history::History;
-use dr_log::Log;
 use dr_log_turns::{
-    Throttles, advance, all_out, deposited, execute, first_twice, flush, full_buffer, is_closing,
-    is_next_deposited, make_room, next_op, run_end, step_after,
+    Throttles, all_out, deposited, first_twice, full_buffer, is_closing, is_next_deposited,
+    next_op, run_end, step_after,
 };
 use dr_memory::PageBytes;
 use dr_ring::{Name, Note};
 use dr_ring_set::{Batch, KernelSeats, Rings};
-use dr_slots::Slots;
 use dr_turns::{Advance, RunEnd, Turn};
 use dr_types::{Guest, Memory, Op, Why};
 use std::alloc::Global;
@@ -48,27 +41,23 @@ use std::marker::Model;
 #[derive(Drop)]
 pub struct Machine<N: Name> {
     alloc: Global,
-    log: Log,
-    seats: KernelSeats<N>,
-    slots: Slots,
+    seated: SeatedLog<N>,
     throttles: Throttles,
     over: bool,
 }
 
 impl<N: Name> Model for Machine<N> {
-    ghost use Rattle.std.specs.Prelude.{◌≡◌};
     ghost use Rattle.dr_turns.specs.Between.{AtTurnsEnd};
     ghost use Rattle.dr_log_turns.specs.Throttled.{AreThrottles};
     ghost use Rattle.dr_machine.specs.Views.{MachineView};
-    ghost use Rattle.dr_machine.specs.Tied.{AreTied};
 
     ghost Value = { MachineView };
 
-    ghost view = { λ m. record { past = m.log.past; seats = m.seats; over = m.over } };
+    ghost view = { λ m.
+        record { past = m.seated.past; seats = m.seated.seats; over = m.over } };
 
     ghost invariant = { λ m.
-        AreTied N.guest N.rings m.slots m.log m.seats × AtTurnsEnd N.guest m.log.past
-        × AreThrottles N.guest m.log.past m.throttles };
+        AtTurnsEnd N.guest m.seated.past × AreThrottles N.guest m.seated.past m.throttles };
 }
 
 impl<N: Name> Machine<N> {
@@ -86,14 +75,11 @@ impl<N: Name> Machine<N> {
         ensures seats { IfOk result (λ m. m.seats ≡ seats) }
         ensures over { IfOk result (λ m. m.over ≡ false) }
     {
-        let slots = Slots::new(alloc, &guest.slots)?;
-        let log = Log::new(alloc, guest)?;
-        let throttles = Throttles::new(alloc, log.vcpus())?;
+        let seated = SeatedLog::new(alloc, guest, seats)?;
+        let throttles = Throttles::new(alloc, seated.log().vcpus())?;
         Ok(Machine {
             alloc,
-            log,
-            seats,
-            slots,
+            seated,
             throttles,
             over: false,
         })
@@ -102,7 +88,6 @@ impl<N: Name> Machine<N> {
     /// What the type of a machine keeps: its history is legal, and the list of each kernel seat has
     /// its vCPU's entries from the first to the last that is pushed, with their number that is
     /// reset. No buffer is full.
-    #[tactic(auto, using(crate::proofs::Machines::one_seat_each))]
     pub fn recall_kept(&self)
         ensures legal { IsLegal N.guest self.now.past }
         ensures end { AtTurnsEnd N.guest self.now.past }
@@ -110,8 +95,8 @@ impl<N: Name> Machine<N> {
         ensures one_each { length self.now.seats ≡ vcpu_count N.guest }
         ensures rings { AreRingsFor N.guest N.rings }
     {
-        self.log.recall_legal();
-        self.seats.recall_named();
+        self.seated.recall_legal();
+        self.seated.recall_seats();
     }
 
     /// Executes a vCPU's next op, or tells why not.
@@ -119,13 +104,14 @@ impl<N: Name> Machine<N> {
         requires { v < vcpu_count N.guest }
         ensures { OpTurn N.guest v result self.old self.new }
     {
-        match next_op(&self.log, self.over, v) {
+        match next_op(self.seated.log(), self.over, v) {
             Err(turn) => Ok(turn),
             Ok(op) => self.execute(rings, v, op),
         }
     }
 
     /// Executes an op, which is the vCPU's next.
+    #[tactic(auto, using(crate::proofs::Used::for_op_throttles))]
     fn execute(&mut self, rings: &Rings<N>, v: u32, op: Op) -> Result<Turn, Memory>
         requires vcpu { v < vcpu_count N.guest }
         requires turn { MayTurn N.guest self.old.past v }
@@ -135,12 +121,7 @@ impl<N: Name> Machine<N> {
         ensures over { self.new.over ≡ self.old.over }
         ensures err { OnErr result (self.new ≡ self.old) }
     {
-        // All memory before the first event: after a refusal the vCPU has executed nothing, so the
-        // same op is its next again.
-        make_room(&mut self.log, v, op)?;
-        execute(&mut self.log, v, op);
-        self.log.recall_legal();
-        push_where_full(&mut self.log, &mut self.seats, rings, &self.slots, v);
+        self.seated.execute(rings, v, op)?;
         Ok(Turn::Done(step_after(op)))
     }
 
@@ -149,12 +130,11 @@ impl<N: Name> Machine<N> {
         requires { v < vcpu_count N.guest }
         ensures { ExitTurn N.guest v result self.old self.new }
     {
-        let inside = self.log.in_guest(v);
+        let inside = self.seated.log().in_guest(v);
         if inside {
-            self.log.recall_legal();
-            let events = full_buffer(self.log.guest()) + 1;
-            self.log.reserve(events)?;
-            Ok(Some(leave(&mut self.log, &mut self.seats, rings, &self.slots, v)))
+            let events = full_buffer(self.seated.log().guest()) + 1;
+            self.seated.reserve(events)?;
+            Ok(Some(self.seated.leave(rings, v)))
         } else {
             Ok(None)
         }
@@ -166,7 +146,7 @@ impl<N: Name> Machine<N> {
         ensures stays { self.new ≡ self.old }
         ensures note { IsNoteOf N.rings self.old.seats v result }
     {
-        self.seats.note(rings, v)
+        self.seated.note(rings, v)
     }
 
     /// Deposits a batch, or hands it back where an entry of it was deposited before or there is no
@@ -175,17 +155,18 @@ impl<N: Name> Machine<N> {
         requires { 0 < length batch.entries }
         ensures { DepositTurn batch result self.old self.new }
     {
+        self.seated.recall_seats();
         let to = batch.first + batch.entries.len() as u64;
-        match first_twice(&self.log, batch.vcpu, batch.first, to) {
+        match first_twice(self.seated.log(), batch.vcpu, batch.first, to) {
             Some(k) => return Err(DepositFault::Twice { batch, k }),
             None => {}
         }
         // Twice is judged before memory: a batch that can never be deposited isn't tried again.
-        match self.log.reserve(1) {
+        match self.seated.reserve(1) {
             Ok(()) => {}
             Err(_) => return Err(DepositFault::Memory { batch }),
         }
-        deposit_fresh(&mut self.log, &mut self.seats, rings, &self.slots, batch);
+        self.seated.deposit_fresh(rings, batch);
         Ok(())
     }
 
@@ -195,7 +176,7 @@ impl<N: Name> Machine<N> {
         requires { v < vcpu_count N.guest }
         ensures { TellsDeposited v self.now.past result }
     {
-        deposited(&self.log, v)
+        deposited(self.seated.log(), v)
     }
 
     /// Resets v's next entry, where that is deposited, and answers how many entries it reset.
@@ -203,12 +184,12 @@ impl<N: Name> Machine<N> {
         requires { v < vcpu_count N.guest }
         ensures { ResetTurn v result self.old self.new }
     {
-        if is_next_deposited(&self.log, v) {
-            self.log.reserve(1)?;
+        if is_next_deposited(self.seated.log(), v) {
+            self.seated.reserve(1)?;
             // The page stays on the list of closing pages until a flush, so it needs its place
             // there.
-            self.log.make_closing_room()?;
-            reset_next(&mut self.log, &mut self.seats, rings, &self.slots, v);
+            self.seated.make_closing_room()?;
+            self.seated.reset_next(rings, v);
             Ok(1)
         } else {
             Ok(0)
@@ -220,10 +201,9 @@ impl<N: Name> Machine<N> {
     pub fn flush(&mut self) -> Result<bool, Memory>
         ensures { FlushTurn N.guest result self.old self.new }
     {
-        if is_closing(&self.log) {
-            self.log.reserve(1)?;
-            self.log.recall_legal();
-            flush(&mut self.log);
+        if is_closing(self.seated.log()) {
+            self.seated.reserve(1)?;
+            self.seated.flush();
             Ok(true)
         } else {
             Ok(false)
@@ -244,12 +224,13 @@ impl<N: Name> Machine<N> {
     {
         self.recall_kept();
         let due = self.make_advance(now)?;
-        read_copied(&self.log, due, into);
+        read_copied(self.seated.log(), due, into);
         Ok(due)
     }
 
     /// Makes the advance that is due, as `advance` does. The bytes of a page that it copies are left
     /// to be read by `page`.
+    #[tactic(auto, using(crate::proofs::Copying::copies_within))]
     pub fn make_advance(&mut self, now: u64) -> Result<Advance, Memory>
         ensures answer { IfOk result (λ a. a ≡ (advanced N.guest now self.old.past).0) }
         ensures appended { OnOk result (self.new.past ≡ (advanced N.guest now self.old.past).1) }
@@ -258,11 +239,9 @@ impl<N: Name> Machine<N> {
         ensures over { self.new.over ≡ self.old.over }
         ensures err { OnErr result (self.new ≡ self.old) }
     {
-        self.log.recall_legal();
-        self.log.reserve(1)?;
-        let due = advance(&mut self.log, self.alloc, now)?;
-        self.log.recall_legal();
-        self.throttles.follow(&self.log, due);
+        self.seated.recall_legal();
+        let due = self.seated.advance(self.alloc, now)?;
+        self.throttles.follow(self.seated.log(), due);
         Ok(due)
     }
 
@@ -292,14 +271,14 @@ impl<N: Name> Machine<N> {
     pub fn all_out(&self) -> bool
         ensures { result ≡ all_out N.guest self.now.past }
     {
-        all_out(&self.log)
+        all_out(self.seated.log())
     }
 
     /// Where the run stands.
     pub fn end(&self) -> RunEnd
         ensures { result ≡ run_end N.guest self.now.past }
     {
-        run_end(&self.log)
+        run_end(self.seated.log())
     }
 
     /// The guest that the name fixes.
@@ -307,7 +286,7 @@ impl<N: Name> Machine<N> {
         ensures is { result.now ≡ N.guest }
         ensures valid { IsValid result.now }
     {
-        self.log.guest()
+        self.seated.log().guest()
     }
 
     /// What has happened, which is legal.
@@ -315,21 +294,21 @@ impl<N: Name> Machine<N> {
         ensures past { result.now.past ≡ self.now.past }
         ensures legal { IsLegal N.guest result.now.past }
     {
-        self.log.history()
+        self.seated.log().history()
     }
 
     /// The bytes of a page.
+    #[tactic(auto, using(dr_history::proofs::Pages::whole_page))]
     pub fn page(&self, page: u32) -> &[u8]
         requires { page < page_count N.guest }
         ensures bytes { result.now ≡ page_bytes N.guest page self.now.past }
         ensures len { length result.now ≡ 4096 }
     {
-        self.log.page(page)
+        self.seated.log().page(page)
     }
 
     /// What is left without the name: the guest that it fixes, the history and the kernel seats,
     /// one for each vCPU.
-    #[tactic(auto, using(crate::proofs::Machines::one_seat_each))]
     pub fn keep(self) -> Kept
         ensures guest { result.guest ≡ N.guest }
         ensures past { result.past ≡ self.past }
@@ -337,8 +316,8 @@ impl<N: Name> Machine<N> {
         ensures one_each { length result.seats ≡ vcpu_count N.guest }
     {
         self.recall_kept();
-        let Machine { log, seats, .. } = self;
-        let (guest, history) = log.into_parts();
-        Kept::of(guest, history, seats.into_seats())
+        let Machine { seated, .. } = self;
+        let (guest, history, seats) = seated.into_parts();
+        Kept::of(guest, history, seats)
     }
 }

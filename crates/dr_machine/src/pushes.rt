@@ -6,13 +6,13 @@ ghost use Rattle.dr_history_law.specs.Room.{unpushed};
 ghost use Rattle.dr_event_law.specs.May.{MayFollow, AtRest};
 ghost use Rattle.dr_seat_law.specs.Entries.{entry};
 ghost use Rattle.dr_turns.specs.Buffers.{all_pushed, pushed_where_full};
-ghost use Rattle.dr_machine.specs.Tied.{AreTied};
 
+use crate::seated::SeatedLog;
 use dr_history::Event;
 use dr_log::Log;
 use dr_log_turns::full_buffer;
 use dr_ring::Name;
-use dr_ring_set::{KernelSeats, Rings};
+use dr_ring_set::Rings;
 use dr_slots::Slots;
 use dr_types::Entry;
 
@@ -31,75 +31,62 @@ fn entry(log: &Log, slots: &Slots, v: u32, k: u64) -> Entry
     }
 }
 
-/// Pushes the vCPU's next entry, into its ring and as an event.
-fn push_next<N: Name>(
-    log: &mut Log,
-    seats: &mut KernelSeats<N>,
-    rings: &Rings<N>,
-    slots: &Slots,
-    v: u32,
-)
-    requires vcpu { v < vcpu_count N.guest }
-    requires tied { AreTied N.guest N.rings slots.now log.old seats.old }
-    requires opened { pushes v log.old.past < opens v log.old.past }
-    requires place { used v log.old.past < N.guest.settings.ring }
-    requires follows { MayFollow N.guest log.old.past (Event.Pushed v (pushes v log.old.past)) }
-    requires events { 1 ≤ log.old.room.events }
-    ensures past { log.new.past ≡ Event.Pushed v (pushes v log.old.past) ∷ log.old.past }
-    ensures tied { AreTied N.guest N.rings slots.now log.new seats.new }
-    ensures events { log.old.room.events ≤ log.new.room.events + 1 }
-{
-    rings.recall_sizes();
-    log.recall_legal();
-    // There is a place: `reserve` and `buffer` keep the soft limit so far below the size that a
-    // full buffer fits above it, as KVM reserves entries for the processor's log.
-    let k = log.pushes(v);
-    let entry = entry(log, slots, v, k);
-    seats.push(rings, v, entry);
-    log.take(Event::Pushed { v, k });
-}
-
-/// Pushes a vCPU's whole buffer, in order.
-#[tactic(auto, using(crate::proofs::Used::for_push_buffer))]
-pub fn push_buffer<N: Name>(
-    log: &mut Log,
-    seats: &mut KernelSeats<N>,
-    rings: &Rings<N>,
-    slots: &Slots,
-    v: u32,
-)
-    requires vcpu { v < vcpu_count N.guest }
-    requires tied { AreTied N.guest N.rings slots.now log.old seats.old }
-    requires rest { AtRest N.guest log.old.past }
-    requires events { unpushed v log.old.past ≤ log.old.room.events }
-    ensures past { log.new.past ≡ all_pushed v log.old.past }
-    ensures tied { AreTied N.guest N.rings slots.now log.new seats.new }
-    ensures events { log.old.room.events ≤ log.new.room.events + unpushed v log.old.past }
-{
-    let unpushed = log.opens(v).saturating_sub(log.pushes(v));
-    for n in 0..unpushed {
-        log.recall_legal();
-        push_next(log, seats, rings, slots, v);
+impl<N: Name> SeatedLog<N> {
+    /// How many entries a vCPU's buffer has.
+    fn unpushed(&self, v: u32) -> u64
+        requires { v < vcpu_count N.guest }
+        ensures { result ≡ unpushed v self.now.past }
+    {
+        self.log.opens(v).saturating_sub(self.log.pushes(v))
     }
-}
 
-/// Pushes a vCPU's whole buffer where it is full.
-pub fn push_where_full<N: Name>(
-    log: &mut Log,
-    seats: &mut KernelSeats<N>,
-    rings: &Rings<N>,
-    slots: &Slots,
-    v: u32,
-)
-    requires vcpu { v < vcpu_count N.guest }
-    requires tied { AreTied N.guest N.rings slots.now log.old seats.old }
-    requires rest { AtRest N.guest log.old.past }
-    requires events { unpushed v log.old.past ≤ log.old.room.events }
-    ensures past { log.new.past ≡ pushed_where_full N.guest v log.old.past }
-    ensures tied { AreTied N.guest N.rings slots.now log.new seats.new }
-{
-    let unpushed = log.opens(v).saturating_sub(log.pushes(v));
-    if full_buffer(log.guest()) <= unpushed {
-        push_buffer(log, seats, rings, slots, v);
+    /// Pushes the vCPU's next entry, into its ring and as an event.
+    fn push_next(&mut self, rings: &Rings<N>, v: u32)
+        requires vcpu { v < vcpu_count N.guest }
+        requires opened { pushes v self.old.past < opens v self.old.past }
+        requires place { used v self.old.past < N.guest.settings.ring }
+        requires follows { MayFollow N.guest self.old.past
+            (Event.Pushed v (pushes v self.old.past)) }
+        requires events { 1 ≤ self.old.room.events }
+        ensures past { self.new.past ≡ Event.Pushed v (pushes v self.old.past) ∷ self.old.past }
+        ensures events { self.old.room.events ≤ self.new.room.events + 1 }
+    {
+        rings.recall_sizes();
+        self.log.recall_legal();
+        // There is a place: `reserve` and `buffer` keep the soft limit so far below the size that a
+        // full buffer fits above it, as KVM reserves entries for the processor's log.
+        let k = self.log.pushes(v);
+        let entry = entry(&self.log, &self.slots, v, k);
+        self.seats.push(rings, v, entry);
+        self.log.take(Event::Pushed { v, k });
+    }
+
+    /// Pushes a vCPU's whole buffer, in order.
+    #[tactic(auto, using(crate::proofs::Used::for_push_buffer))]
+    pub(crate) fn push_buffer(&mut self, rings: &Rings<N>, v: u32)
+        requires vcpu { v < vcpu_count N.guest }
+        requires rest { AtRest N.guest self.old.past }
+        requires events { unpushed v self.old.past ≤ self.old.room.events }
+        ensures past { self.new.past ≡ all_pushed v self.old.past }
+        ensures events { self.old.room.events ≤ self.new.room.events + unpushed v self.old.past }
+    {
+        let unpushed = self.unpushed(v);
+        for n in 0..unpushed {
+            self.recall_legal();
+            self.push_next(rings, v);
+        }
+    }
+
+    /// Pushes a vCPU's whole buffer where it is full.
+    pub(crate) fn push_where_full(&mut self, rings: &Rings<N>, v: u32)
+        requires vcpu { v < vcpu_count N.guest }
+        requires rest { AtRest N.guest self.old.past }
+        requires events { unpushed v self.old.past ≤ self.old.room.events }
+        ensures past { self.new.past ≡ pushed_where_full N.guest v self.old.past }
+    {
+        let unpushed = self.unpushed(v);
+        if full_buffer(self.log.guest()) <= unpushed {
+            self.push_buffer(rings, v);
+        }
     }
 }
