@@ -2,6 +2,11 @@
 //! it.
 #![tactic(auto)]
 
+ghost use Rattle.std.specs.Prelude.{◌≡◌, ◌↔◌, false, None, map, string_bytes};
+ghost use Rattle.dr_command.specs.Words.{is_command};
+ghost use Rattle.dr_plain.specs.Input.{Takes};
+ghost use Rattle.dr_plain.specs.Top.{Says};
+
 mod paths;
 mod refusal;
 mod shown;
@@ -16,18 +21,21 @@ use crate::refusal::{
 };
 use crate::source::{InputFile, KeptSource, NotedReader};
 use crate::standard::hold_standard;
-use dr_command::{Paths, read_words};
+use dr_command::{Paths, read_command};
 use dr_history::Event;
-use dr_io::{FixedClock, ReadSource};
-use dr_io_files::{FileIdentity, FilePorts, OwnedFiles, PathOpener};
+use dr_io::{FixedClock, OpenGate, Outlet, ReadSource, Source};
+use dr_io_files::{FileIdentity, FilePorts, OwnedFiles, PathOpener, PortPaths};
+use dr_live::{LiveEnd, live_main};
 use dr_machine::Kept;
 use dr_plain::{PlainEnd, plain_main};
 use dr_types::Status;
-use std::alloc::AllocError;
+use std::alloc::Global;
 use std::cell::Cell;
 use std::io::ErrorKind;
 use std::process::ExitCode;
 use std::rt::Files;
+use std::sync::Wait;
+use std::thread::Threads;
 use std::{env, fs, io};
 
 /// The words after the program's name.
@@ -73,36 +81,47 @@ fn spent_of(kept: &Kept) -> Option<Spent> {
     None
 }
 
-/// Does the command of these words, says why where it was not done, and answers the exit code.
-fn run(rt: &HostRuntime, words: &[String]) -> Result<u8, AllocError> {
-    let alloc = rt.alloc();
-    let paths = NamedPaths {
-        words,
-        places: read_words(words).unwrap_or(Paths::none()),
+/// The paths of the command that the words are.
+fn paths_of(words: &[String]) -> NamedPaths<'_> {
+    let places = match read_command(words) {
+        Some(command) => command.paths(),
+        None => Paths::none(),
     };
-    let cause = Cell::new(None);
-    let input = NotedReader::new(open_input(rt, paths.input()), &cause);
-    let mut source = KeptSource::new(alloc, ReadSource::new(input));
-    let opener = PathOpener::new(rt, paths.ports()?, owned_files(rt, paths.input()));
-    let out = FilePorts::new(alloc, io::writer(rt), opener);
+    NamedPaths { words, places }
+}
+
+/// Does the command of these words, in threads where it needs them.
+fn command<R: Threads + Wait + Sync, S: Source, O: Outlet + Send>(
+    rt: &R,
+    alloc: Global,
+    words: &[String],
+    source: &mut S,
+    out: O,
+) -> LiveEnd<O>
+    ensures words { (result.status ≡ Status.Words)
+        ↔ (is_command (map string_bytes words.now) ≡ false) }
+    ensures says { Says result.status (S.remaining source.old) result.kept
+        (O.told out) (O.told result.out) }
+    ensures takes { Takes result.status (S.remaining source.old) (S.remaining source.new) }
+    ensures unput { result.kept ≡ None → result.out ≡ out }
+{
     let clock = FixedClock { now: 0 };
-    let PlainEnd { status, out, kept } = plain_main(alloc, words, &mut source, out, &clock);
-    let unwritten = out.finish();
-    let refusal = Refusal {
-        status: status.unwrap_or(Status::Words),
-        paths,
-        file: source.kept(),
-        unread: cause.get(),
-        unwritten,
-        spent: kept.as_ref().and_then(spent_of),
-    };
+    let PlainEnd { status, out, kept } = plain_main(alloc, words, source, out, &clock);
+    match status {
+        Some(status) => LiveEnd { status, out, kept },
+        None => live_main(rt, alloc, words, source, out, &clock, &OpenGate),
+    }
+}
+
+/// Says why a command was not done, where it wasn't, and answers the exit code.
+fn explain_end(rt: &(impl Eprint + AllocGlobal), refusal: &Refusal<'_>) -> u8 {
     // Where standard error is closed, the exit code alone says it.
-    print_refusal(rt, &refusal).unwrap_or(());
-    Ok(last_code(refusal.status, unwritten.is_none()))
+    print_refusal(rt, refusal).unwrap_or(());
+    last_code(refusal.status, refusal.unwritten.is_none())
 }
 
 /// What is said where the words can't be had: one is no text, or memory ran out.
-fn refuse_words(rt: &HostRuntime, why: io::Error) -> u8 {
+fn refuse_words(rt: &impl Eprint, why: io::Error) -> u8 {
     if why.kind() == ErrorKind::InvalidData {
         print_usage(rt).unwrap_or(());
         exit_code(Status::Words)
@@ -111,26 +130,53 @@ fn refuse_words(rt: &HostRuntime, why: io::Error) -> u8 {
     }
 }
 
-fn refuse_memory(rt: &HostRuntime) -> u8 {
+fn refuse_memory(rt: &impl Eprint) -> u8 {
     print_no_memory(rt).unwrap_or(());
     exit_code(Status::Memory)
 }
 
-/// Does the command of the program's words, and answers the exit code.
-fn run_words(rt: &HostRuntime) -> u8 {
-    match command_words(rt) {
-        Ok(words) => run(rt, words.as_slice()).unwrap_or_else(|_| refuse_memory(rt)),
-        Err(why) => refuse_words(rt, why),
+/// What is said where standard input and output can't be held.
+fn refuse_unheld(rt: &impl Eprint, why: io::Error) -> u8 {
+    print_unheld(rt, why).unwrap_or(());
+    exit_code(Status::Outlet)
+}
+
+/// The words of the program and the paths of its ports, or the exit code where they can't be had.
+fn begin(rt: &HostRuntime) -> Result<(Vec<String>, PortPaths), u8> {
+    let words = match command_words(rt) {
+        Ok(words) => words,
+        Err(why) => return Err(refuse_words(rt, why)),
+    };
+    match paths_of(words.as_slice()).ports() {
+        Ok(ports) => Ok((words, ports)),
+        Err(_) => Err(refuse_memory(rt)),
     }
 }
 
 fn main(rt: HostRuntime) -> Result<ExitCode, io::Error> {
-    let code = match hold_standard(&rt) {
-        Ok(_held) => run_words(&rt),
-        Err(why) => {
-            print_unheld(&rt, why).unwrap_or(());
-            exit_code(Status::Outlet)
-        }
+    let _held = match hold_standard(&rt) {
+        Ok(held) => held,
+        Err(why) => return Ok(ExitCode::from(refuse_unheld(&rt, why))),
     };
-    Ok(ExitCode::from(code))
+    let (words, ports) = match begin(&rt) {
+        Ok(begun) => begun,
+        Err(code) => return Ok(ExitCode::from(code)),
+    };
+    let alloc = rt.alloc();
+    let paths = paths_of(words.as_slice());
+    let cause = Cell::new(None);
+    let input = NotedReader::new(open_input(&rt, paths.input()), &cause);
+    let mut source = KeptSource::new(alloc, ReadSource::new(input));
+    let opener = PathOpener::new(&rt, ports, owned_files(&rt, paths.input()));
+    let out = FilePorts::new(alloc, io::writer(&rt), opener);
+    let LiveEnd { status, out, kept } = command(&rt, alloc, words.as_slice(), &mut source, out);
+    let refusal = Refusal {
+        status,
+        paths,
+        file: source.kept(),
+        unread: cause.get(),
+        unwritten: out.finish(),
+        spent: kept.as_ref().and_then(spent_of),
+    };
+    Ok(ExitCode::from(explain_end(&rt, &refusal)))
 }

@@ -79,8 +79,10 @@ impl<'a> Refusal<'a> {
 /// The usage of the program, with an example.
 const USAGE: &str = "\
 usage: dirtyring_cli step [--in PATH] [--stream PATH] [--image PATH] [--journal PATH]
+       dirtyring_cli run [--in PATH] [--stream PATH] [--image PATH] [--journal PATH]
 
-Migrates the guest of a guest file, and prints a report of it.
+Migrates the guest of a guest file, and prints a report of it. With step its vCPUs run on one
+thread, always in the same order; with run each is a thread of its own.
 
   --in PATH       the guest file; without it, standard input is read
   --stream PATH   where the migration stream goes

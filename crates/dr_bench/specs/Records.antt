@@ -28,8 +28,8 @@ abbrev pub opens_at : Guest → Bool → Advance → Bool
 opens_at guest stop (advance.Answered r pages) = nat_lt guest.settings.threshold pages || stop
 opens_at guest stop a = false
 
--- what an advance of this answer puts, with the events after it: `opens` where it opens a round, and
--- `sent` pages before
+-- what an advance of this answer puts, with the events after it: `opens` where it opens a round,
+-- and `sent` pages before
 abbrev pub record_bytes : Guest → List Event → Advance → Bool → ℕ → List ℕ
 record_bytes guest past advance.Started opens sent = header (page_count guest)
 record_bytes guest past (advance.Answered r n) opens sent = if opens then round_record r else []

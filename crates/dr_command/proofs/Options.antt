@@ -1,7 +1,7 @@
 -- The options of a command, two words at a time.
 use Rattle.std.proofs.Common.{◌≡◌, ℕ, suc, ◌+◌, ◌<◌, List, [], ◌∷◌, map, length, get_or, drop, Some, None, refl, ap, sym, ◌∙◌, arith, add-one, drop-cons, length-drop}
 use Rattle.std.proofs.lemmas.List.{drop-map, length-map}
-use Rattle.dr_command.specs.declared.words.Paths.{Paths}
+use Rattle.dr_command.specs.declared.paths.Paths.{Paths}
 use Rattle.dr_command.specs.Words.{paths_from, with_option}
 
 -- the next word, and those behind it

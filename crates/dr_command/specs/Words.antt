@@ -1,8 +1,11 @@
 -- The words that are a command, and the paths that they say.
-use Rattle.std.specs.Prelude.{ℕ, Bool, ◌+◌, List, [], ◌∷◌, Option, Some, None, is_some, codes}
+use Rattle.std.specs.Prelude.{ℕ, Bool, true, false, ◌+◌, List, [], ◌∷◌, Option, Some, None}
+use Rattle.std.specs.Prelude.{is_some, codes}
 use Rattle.std.specs.Prelude.{if◌then◌else◌}
 use Rattle.std.specs.Str.{bytes_eq}
-use Rattle.dr_command.specs.declared.words.Paths.{Paths}
+use Rattle.dr_command.specs.declared.command.Command.{Command}
+use Rattle.dr_command.specs.declared.command.Command.TheVariants as command
+use Rattle.dr_command.specs.declared.paths.Paths.{Paths}
 
 -- no path is said
 abbrev pub no_paths : Paths
@@ -52,12 +55,44 @@ paths_from (name ∷ []) at (Some paths) = None
 paths_from (name ∷ path ∷ words) at (Some paths) =
     paths_from words (at + 2) (with_option paths name path (at + 1))
 
--- the word `step`, and then each option at most once, with its path
-abbrev pub step_of : List (List ℕ) → Option Paths
-step_of [] = None
-step_of (word ∷ words) =
-    if bytes_eq word (codes "step") then paths_from words 1 (Some no_paths) else None
+-- where the paths of a command stand
+abbrev pub paths_of : Command → Paths
+paths_of (command.Step paths) = paths
+paths_of (command.Run paths) = paths
+
+-- the command of this name, with these paths
+abbrev pub command_named : List ℕ → Paths → Option Command
+command_named name paths =
+    if bytes_eq name (codes "step") then Some (command.Step paths)
+    else if bytes_eq name (codes "run") then Some (command.Run paths)
+    else None
+
+-- the command of this name, where paths are said
+abbrev pub with_paths : List ℕ → Option Paths → Option Command
+with_paths name None = None
+with_paths name (Some paths) = command_named name paths
+
+-- the command that these words are: its name, and then each option at most once, with its path
+abbrev pub command_of : List (List ℕ) → Option Command
+command_of [] = None
+command_of (name ∷ words) = with_paths name (paths_from words 1 (Some no_paths))
+
+-- the words are a command
+abbrev pub is_command : List (List ℕ) → Bool
+is_command words = is_some (command_of words)
+
+abbrev pub says_step : Option Command → Bool
+says_step (Some (command.Step paths)) = true
+says_step said = false
+
+abbrev pub says_run : Option Command → Bool
+says_run (Some (command.Run paths)) = true
+says_run said = false
 
 -- the words are the command `step`
 abbrev pub is_step : List (List ℕ) → Bool
-is_step words = is_some (step_of words)
+is_step words = says_step (command_of words)
+
+-- the words are the command `run`
+abbrev pub is_run : List (List ℕ) → Bool
+is_run words = says_run (command_of words)

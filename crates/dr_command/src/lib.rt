@@ -1,8 +1,10 @@
-//! The words of a command: which are a command, and where its paths stand among them.
+//! The words of a command: which command they are, and where its paths stand among them.
 #![tactic(auto)]
 
+mod command;
+mod paths;
 #[cfg(test)]
 mod tests;
-mod words;
 
-pub use words::{Paths, is_step, read_words};
+pub use command::{Command, no_words_are_two_commands, read_command};
+pub use paths::Paths;

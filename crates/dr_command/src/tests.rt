@@ -1,6 +1,6 @@
-//! Where the paths of a command stand among its words.
+//! Which words are which command, and where its paths stand among them.
 
-use crate::{Paths, is_step, read_words};
+use crate::{Command, Paths, read_command};
 use std::alloc::{AllocError, Global};
 use std::test::Fail;
 
@@ -12,34 +12,38 @@ fn words(alloc: Global, words: &[&str]) -> Result<Vec<String>, AllocError> {
     Ok(all)
 }
 
-/// The paths of these words, where they are a command.
-fn places(alloc: Global, row: &[&str]) -> Result<Option<Paths>, AllocError> {
+/// The command that these words are.
+fn command(alloc: Global, row: &[&str]) -> Result<Option<Command>, AllocError> {
     let words = words(alloc, row)?;
-    if is_step(words.as_slice()) {
-        Ok(read_words(words.as_slice()))
-    } else {
-        Ok(None)
-    }
+    Ok(read_command(words.as_slice()))
 }
 
 #[test]
-fn finds_paths(rt: HostRuntime) -> Result<(), Fail> {
+fn finds_commands(rt: HostRuntime) -> Result<(), Fail> {
     let none = Paths::none();
     let input = Some(2);
-    let rows: [(&[&str], Option<Paths>); 6] = [
-        (&["step"], Some(none)),
-        (&["step", "--in", "a"], Some(Paths { input, ..none })),
+    let rows: [(&[&str], Option<Command>); 10] = [
+        (&["step"], Some(Command::Step(none))),
+        (&["run"], Some(Command::Run(none))),
+        (
+            &["step", "--in", "a"],
+            Some(Command::Step(Paths { input, ..none })),
+        ),
+        (
+            &["run", "--in", "step"],
+            Some(Command::Run(Paths { input, ..none })),
+        ),
         (
             &["step", "--in", "--stream", "--stream", "--in"],
-            Some(Paths {
+            Some(Command::Step(Paths {
                 input,
                 stream: Some(4),
                 ..none
-            }),
+            })),
         ),
         (
             &[
-                "step",
+                "run",
                 "--journal",
                 "a",
                 "--image",
@@ -49,18 +53,22 @@ fn finds_paths(rt: HostRuntime) -> Result<(), Fail> {
                 "--in",
                 "a",
             ],
-            Some(Paths {
+            Some(Command::Run(Paths {
                 input: Some(8),
                 stream: Some(6),
                 image: Some(4),
                 journal: Some(2),
-            }),
+            })),
         ),
         (&["step", "--in", ""], None),
+        (&["run", "run"], None),
         (&["walk"], None),
+        (&[], None),
     ];
     for (row, wanted) in rows {
-        assert_eq!(rt; places(rt.alloc(), row)?, wanted);
+        let said = command(rt.alloc(), row)?;
+        assert_eq!(rt; said, wanted);
+        assert_eq!(rt; said.map(|it| it.paths()), wanted.map(|it| it.paths()));
     }
     Ok(())
 }

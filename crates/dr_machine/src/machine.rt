@@ -228,8 +228,8 @@ impl<N: Name> Machine<N> {
         Ok(due)
     }
 
-    /// Makes the advance that is due, as `advance` does. The bytes of a page that it copies are left
-    /// to be read by `page`.
+    /// Makes the advance that is due, as `advance` does. The bytes of a page that it copies are
+    /// left to be read by `page`.
     #[tactic(auto, using(crate::proofs::Copying::copies_within))]
     pub fn make_advance(&mut self, now: u64) -> Result<Advance, Memory>
         ensures answer { IfOk result (λ a. a ≡ (advanced N.guest now self.old.past).0) }

@@ -1,5 +1,5 @@
 -- What the top call leaves.
-use Rattle.std.proofs.Common.{◌≡◌, ℕ, ◌<◌, List, length, Option, Some, None, Result, Ok, Err, sym, subst, ◌∙◌, refl, arith, inl, inr}
+use Rattle.std.proofs.Common.{◌≡◌, ◌≢◌, ℕ, ◌<◌, List, length, Option, Some, None, Result, Ok, Err, sym, subst, ◌∙◌, refl, arith, inl, inr}
 use Rattle.dr_types.specs.declared.guest.Guest.{Guest}
 use Rattle.dr_types.specs.declared.fault.FileFault.{FileFault}
 use Rattle.dr_types.specs.declared.status.Status.{Status}
@@ -43,6 +43,16 @@ pub source_rose : (s : Status) (remaining : Option (List ℕ)) (before now : ℕ
 source_rose Source remaining before now refusal is = refusal
 source_rose s remaining before now refusal is = cc
 
+-- a run never refuses the words
+pub run_knows_words : (s : Status) (guest : Guest) (kept : Option KeptView) (old new : Ports) → RunSays s guest kept old new → s ≢ Words
+run_knows_words Words guest kept old new says is = absurd says
+run_knows_words s guest kept old new says is = cc
+
+-- nor does a source of which no guest was read
+pub refusal_knows_words : (s : Status) (remaining : Option (List ℕ)) (before now : ℕ) → IsRefusal s remaining before now → s ≢ Words
+refusal_knows_words Words remaining before now refusal is = absurd refusal
+refusal_knows_words s remaining before now refusal is = cc
+
 both_guests : (r : Result Guest FileFault) (guest : Guest) (why : FileFault) → r ≡ Ok guest → r ≡ Err why → ⊥
 both_guests r guest why ok err = let e : Ok guest ≡ Err why = sym ok ∙ err in cc
 
@@ -70,3 +80,6 @@ runs Source remaining kept old new bytes says step told file = tt
 runs Memory remaining kept old new bytes says step told file = tt
 runs TooLong remaining kept old new bytes says step told file = let long : most_bytes < length bytes = says.1 bytes told in omega (arith, long, file.file.0)
 runs other remaining kept old new bytes says step told file = absurd says
+
+-- how a command ends that reads a guest file and runs its guest
+pub ruleset input_ends = (says_run, takes_run, says_quit, source_rose, some_migrated, runs, run_knows_words, refusal_knows_words)

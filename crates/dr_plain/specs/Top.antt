@@ -1,5 +1,6 @@
 -- What a command leaves, by how it ended.
-use Rattle.std.specs.Prelude.{◌≡◌, ◌≢◌, ◌⊎◌, ℕ, ◌<◌, All, List, [], length, Option, Some, None}
+use Rattle.std.specs.Prelude.{◌≡◌, ◌≢◌, ◌⊎◌, ℕ, ◌<◌, true, All, List, [], length}
+use Rattle.std.specs.Prelude.{Option, Some, None}
 use Rattle.dr_types.specs.declared.guest.Guest.{Guest}
 use Rattle.dr_types.specs.declared.fault.FileFault.TheVariants as fault
 use Rattle.dr_types.specs.declared.status.Status.{Status}
@@ -8,14 +9,17 @@ use Rattle.dr_types.specs.declared.status.Status.TheVariants.{Outlet, Source, Me
 use Rattle.dr_types.specs.Ports.{Ports, put_all, PutsCut}
 use Rattle.dr_types.specs.Scripts.{vcpu_count}
 use Rattle.dr_types.specs.Validity.{IsValid}
+use Rattle.dr_history.specs.declared.event.Event.{Event}
 use Rattle.dr_history.specs.Legality.{IsLegal}
 use Rattle.dr_history.specs.Lines.{FitsLine}
 use Rattle.dr_headline_law.specs.Headline.{KeepsHeadline, KeepsPromises}
 use Rattle.dr_machine.specs.Views.{KeptView}
-use Rattle.dr_run.specs.Outcomes.{HasSpent, HasSwitched}
-use Rattle.dr_schedule_law.specs.Schedule.{CutAtTurn}
+use Rattle.dr_run.specs.Outcomes.{ends_switched}
+use Rattle.dr_schedule_law.specs.Schedule.{CutAtTurn, IsScheduled}
 use Rattle.dr_seat_law.specs.Seats.{AreSeats}
 use Rattle.dr_schedule_law.specs.Spent.{AreSpent}
+use Rattle.dr_turns.specs.Due.{run_end}
+use Rattle.dr_turns.specs.declared.answers.RunEnd.TheVariants as end
 use Rattle.dr_plain.specs.Input.{IfTold, IsRead, IsRefused, most_bytes}
 use Rattle.dr_plain.specs.Puts.{puts_of}
 
@@ -28,28 +32,26 @@ pub record IsRunOf (guest : Guest) (kept : KeptView) : Type 0 where
   pub seats : AreSeats guest kept.past kept.seats
   pub one_each : length kept.seats ≡ vcpu_count guest
 
--- the guest has switched over, by the schedule; the headline holds, and all that is to be put was
--- put
+-- the guest has switched over; the headline holds, and all that is to be put was put
 pub record IsMigrated (guest : Guest) (kept : KeptView) (old new : Ports) : Type 0 where
   pub run : IsRunOf guest kept
-  pub switched : HasSwitched guest kept.past
+  pub last : ends_switched kept.past ≡ true
   pub headline : KeepsHeadline guest kept.past
   pub ports : new ≡ put_all (puts_of guest kept.past) old
 
--- All rounds of the guest are spent, by the schedule: each was answered with too many pages, which
--- were copied. The promises hold, and all that is to be put was put.
+-- All rounds of the guest are spent: each was answered with too many pages, which were copied. The
+-- promises hold, and all that is to be put was put.
 pub record IsUnfinished (guest : Guest) (kept : KeptView) (old new : Ports) : Type 0 where
   pub run : IsRunOf guest kept
-  pub spent : HasSpent guest kept.past
+  pub spent : run_end guest kept.past ≡ end.Budget
   pub rounds : AreSpent guest kept.past
   pub promises : KeepsPromises guest kept.past
   pub ports : new ≡ put_all (puts_of guest kept.past) old
 
--- The run was cut off at the end of a turn: its events are a first part of a schedule, and the
--- promises hold. Of the puts all before one were made, and a first part of that one.
+-- The run was cut off, and the promises hold. Of the puts all before one were made, and a first
+-- part of that one.
 pub record IsCutOff (guest : Guest) (kept : KeptView) (old new : Ports) : Type 0 where
   pub run : IsRunOf guest kept
-  pub cut : CutAtTurn guest [] kept.past
   pub promises : KeepsPromises guest kept.past
   pub ports : PutsCut (puts_of guest kept.past) old new
 
@@ -61,6 +63,15 @@ RunSays Outlet guest (Some kept) old new = IsCutOff guest kept old new
 RunSays Memory guest (Some kept) old new = IsCutOff guest kept old new
 RunSays Memory guest None old new = new ≡ old
 RunSays s guest kept old new = ⊥
+
+-- what the status of a run on one thread says of the order of its events: they are blocks of the
+-- schedule, and where the run was cut off, so were they, at the end of a turn
+abbrev pub SchedulesAs : Status → Guest → List Event → Type 0
+SchedulesAs Done guest past = IsScheduled guest past
+SchedulesAs Unfinished guest past = IsScheduled guest past
+SchedulesAs Outlet guest past = CutAtTurn guest [] past
+SchedulesAs Memory guest past = CutAtTurn guest [] past
+SchedulesAs other guest past = ⊥
 
 -- the guest of the source was run, and its run ended with this status
 pub record HasRun (s : Status) (remaining : Option (List ℕ)) (kept : Option KeptView)
@@ -94,6 +105,11 @@ pub record SomeMigrated (kept : Option KeptView) (old new : Ports) : Type 0 wher
   pub is : kept ≡ Some view
   pub valid : IsValid view.guest
   pub migrated : IsMigrated view.guest view old new
+
+-- there is a status, and it isn't this one
+abbrev pub IsSomeBut : Status → Option Status → Type 0
+IsSomeBut s None = ⊥
+IsSomeBut s (Some other) = other ≢ s
 
 -- how a command may end whose source tells a guest file
 abbrev pub EndsRun : Status → Type 0

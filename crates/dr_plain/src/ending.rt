@@ -6,9 +6,9 @@ ghost use Rattle.dr_history.specs.Legality.{IsLegalSoFar};
 ghost use Rattle.dr_history.specs.Memory.{image_of};
 ghost use Rattle.dr_history.specs.Report.{report_of};
 ghost use Rattle.dr_history.specs.Stream.{stream_of};
-ghost use Rattle.dr_run.specs.Outcomes.{EndsAs, SendsAs};
+ghost use Rattle.dr_run.specs.Outcomes.{SendsAs, StandsAs};
 ghost use Rattle.dr_turns.specs.declared.answers.RunEnd.TheVariants as end;
-ghost use Rattle.dr_plain.specs.Ended.{EndsWhole};
+ghost use Rattle.dr_plain.specs.Ended.{IsWhole};
 ghost use Rattle.dr_plain.specs.Puts.{IsFault, PutsPart, puts_behind, puts_of, texts_of};
 
 use crate::journal::journal;
@@ -161,11 +161,11 @@ pub fn put_behind<N: Name, O: Outlet>(
     end: OutcomeEnd,
     out: &mut O,
 ) -> Result<Status, PutFault>
-    requires ends { EndsAs end N.guest machine.now.past }
+    requires stands { StandsAs end N.guest machine.now.past }
     requires sends { SendsAs end (stream_of N.guest machine.now.past) N.ports (O.told out.old) }
     requires later { N.faults ≤ O.faults out.old }
     requires risen { end ≡ OutcomeEnd.Sink → Rose N.faults (O.faults out.old) }
-    ensures whole { IfOk result (λ s. EndsWhole s N.guest machine.now.past) }
+    ensures whole { IfOk result (IsWhole end) }
     ensures done { let puts = puts_of N.guest machine.now.past in
         OnOk result (O.told out.new ≡ put_all puts N.ports) }
     ensures cut { let puts = puts_of N.guest machine.now.past in

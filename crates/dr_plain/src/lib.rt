@@ -5,7 +5,10 @@
 mod ending;
 mod input;
 mod journal;
+mod leaving;
 mod plain;
 mod step;
 
+pub use input::read_input;
+pub use leaving::{Finished, finish};
 pub use plain::{PlainEnd, plain_main};

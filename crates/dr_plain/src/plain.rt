@@ -1,14 +1,15 @@
-ghost use Rattle.std.specs.Prelude.{◌≡◌, ◌↔◌, true, false, All, Some, None};
-ghost use Rattle.std.specs.Prelude.{IsSome, IfSome, map, string_bytes};
+ghost use Rattle.std.specs.Prelude.{◌≡◌, ◌≢◌, ◌↔◌, true, false, All, Some, None};
+ghost use Rattle.std.specs.Prelude.{IfSome, map, string_bytes};
 ghost use Rattle.dr_types.specs.Ports.{Rose};
 ghost use Rattle.dr_history.specs.Times.{times};
+ghost use Rattle.dr_command.specs.Words.{is_command, is_run, is_step};
 ghost use Rattle.dr_plain.specs.Input.{IfTold, IsGuestFile, Takes};
-ghost use Rattle.dr_plain.specs.Top.{EndsRun, Says, SomeMigrated};
-ghost use Rattle.dr_command.specs.Words.{is_step};
+ghost use Rattle.dr_plain.specs.Top.{EndsRun, IsSomeBut, Says, SchedulesAs, SomeMigrated};
 
 use crate::input::read_input;
-use crate::step::{StepEnd, step};
-use dr_command::is_step;
+use crate::leaving::Finished;
+use crate::step::step;
+use dr_command::{Command, read_command};
 use dr_io::{Clock, Outlet, Source};
 use dr_machine::Kept;
 use dr_types::Status;
@@ -17,7 +18,7 @@ use std::alloc::Global;
 /// How a command ended.
 #[derive(Drop)]
 pub struct PlainEnd<O: Outlet> {
-    /// The status; it is there for every command of today.
+    /// The status. There is none where the words are the command `run`, which needs threads.
     pub status: Option<Status>,
     /// The outlet that was handed in.
     pub out: O,
@@ -25,20 +26,53 @@ pub struct PlainEnd<O: Outlet> {
     pub kept: Option<Kept>,
 }
 
-/// A command that ran no guest.
-fn quit<O: Outlet>(status: Status, out: O) -> PlainEnd<O>
-    ensures { result ≡ record { status = Some status; out = out; kept = None } }
+/// A command that was not done.
+fn undone<O: Outlet>(status: Option<Status>, out: O) -> PlainEnd<O>
+    ensures { result ≡ record { status = status; out = out; kept = None } }
 {
     PlainEnd {
-        status: Some(status),
+        status,
         out,
         kept: None,
     }
 }
 
-/// Does a command that needs no threads: `step` reads a guest file from the source, migrates the
-/// guest, and puts the stream, the image, the report and the journal. Other words are no command.
+/// The command `step`: reads a guest file from the source, migrates the guest, and puts the stream,
+/// the image, the report and the journal.
 #[tactic(auto, using(crate::proofs::Tops::says_run, crate::proofs::Tops::takes_run))]
+fn step_input<S: Source, O: Outlet, C: Clock>(
+    alloc: Global,
+    src: &mut S,
+    out: O,
+    clock: &C,
+) -> Finished<O>
+    ensures step { result.status ≢ Status.Words }
+    ensures says { Says result.status (S.remaining src.old) result.kept
+        (O.told out) (O.told result.out) }
+    ensures scheduled { IfSome result.kept (λ k. SchedulesAs result.status k.guest k.past) }
+    ensures times { IfSome result.kept (λ k. All (C.reads clock.now) (times k.past)) }
+    ensures takes { Takes result.status (S.remaining src.old) (S.remaining src.new) }
+    ensures untold { result.status ≡ Status.Done
+        → SomeMigrated result.kept (O.told out) (O.told result.out) }
+    ensures ends { IfTold (S.remaining src.old) (λ bytes.
+        IsGuestFile bytes → EndsRun result.status) }
+    ensures outlet { result.status ≡ Status.Outlet → Rose (O.faults out) (O.faults result.out) }
+    ensures source { result.status ≡ Status.Source → Rose (S.faults src.old) (S.faults src.new) }
+    ensures unput { result.kept ≡ None → result.out ≡ out }
+{
+    match read_input(alloc, src) {
+        Ok(guest) => step(alloc, guest, out, clock),
+        Err(status) => Finished {
+            status,
+            out,
+            kept: None,
+        },
+    }
+}
+
+/// Does a command that needs no threads: `step` reads a guest file from the source, migrates the
+/// guest, and puts the stream, the image, the report and the journal. Where the words are `run` or
+/// no command, nothing is done.
 pub fn plain_main<S: Source, O: Outlet, C: Clock>(
     alloc: Global,
     words: &[String],
@@ -46,11 +80,15 @@ pub fn plain_main<S: Source, O: Outlet, C: Clock>(
     out: O,
     clock: &C,
 ) -> PlainEnd<O>
-    ensures some { IsSome result.status }
     ensures words { (result.status ≡ Some Status.Words)
-        ↔ (is_step (map string_bytes words.now) ≡ false) }
+        ↔ (is_command (map string_bytes words.now) ≡ false) }
+    ensures run { (result.status ≡ None) ↔ (is_run (map string_bytes words.now) ≡ true) }
+    ensures step { is_step (map string_bytes words.now) ≡ true
+        → IsSomeBut Status.Words result.status }
     ensures says { IfSome result.status (λ s.
         Says s (S.remaining src.old) result.kept (O.told out) (O.told result.out)) }
+    ensures scheduled { IfSome result.kept (λ k. IfSome result.status (λ s.
+        SchedulesAs s k.guest k.past)) }
     ensures times { IfSome result.kept (λ k. All (C.reads clock.now) (times k.past)) }
     ensures takes { IfSome result.status
         (λ s. Takes s (S.remaining src.old) (S.remaining src.new)) }
@@ -63,20 +101,20 @@ pub fn plain_main<S: Source, O: Outlet, C: Clock>(
         → Rose (O.faults out) (O.faults result.out) }
     ensures source { result.status ≡ Some Status.Source
         → Rose (S.faults src.old) (S.faults src.new) }
-    ensures unread { result.status ≡ Some Status.Words → src.new ≡ src.old }
+    ensures unread { is_step (map string_bytes words.now) ≡ false → src.new ≡ src.old }
+    ensures unkept { is_step (map string_bytes words.now) ≡ false → result.kept ≡ None }
     ensures unput { result.kept ≡ None → result.out ≡ out }
 {
-    if !is_step(words) {
-        return quit(Status::Words, out);
-    }
-    let guest = match read_input(alloc, src) {
-        Ok(guest) => guest,
-        Err(status) => return quit(status, out),
-    };
-    let StepEnd { status, out, kept } = step(alloc, guest, out, clock);
-    PlainEnd {
-        status: Some(status),
-        out,
-        kept,
+    match read_command(words) {
+        Some(Command::Step(_)) => {
+            let Finished { status, out, kept } = step_input(alloc, src, out, clock);
+            PlainEnd {
+                status: Some(status),
+                out,
+                kept,
+            }
+        }
+        Some(Command::Run(_)) => undone(None, out),
+        None => undone(Some(Status::Words), out),
     }
 }

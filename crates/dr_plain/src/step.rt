@@ -1,86 +1,29 @@
-ghost use Rattle.std.specs.Prelude.{◌≡◌, ◌≤◌, All, Some, None, IfSome, length};
+ghost use Rattle.std.specs.Prelude.{◌≡◌, All, Some, None, IfSome, length};
 ghost use Rattle.dr_types.specs.Ports.{Rose};
 ghost use Rattle.dr_types.specs.Scripts.{vcpu_count};
 ghost use Rattle.dr_types.specs.Validity.{IsValid};
-ghost use Rattle.dr_history.specs.Stream.{stream_of};
 ghost use Rattle.dr_history.specs.Times.{times};
-ghost use Rattle.dr_run.specs.Outcomes.{EndsAs, SendsAs};
-ghost use Rattle.dr_plain.specs.Ended.{left_of, status_of_end};
-ghost use Rattle.dr_plain.specs.Top.{IsRunOf, RunSays};
+ghost use Rattle.dr_plain.specs.Top.{RunSays, SchedulesAs};
 
-use crate::ending::{PutFault, put_behind};
+use crate::leaving::{Finished, finish};
 use dr_io::{Clock, Outlet};
-use dr_machine::{Kept, Machine, rings_for};
+use dr_machine::rings_for;
 use dr_ring::Name;
 use dr_ring_set::RingSet;
-use dr_run::{Outcome, OutcomeEnd, RunOutcome, step_run};
+use dr_run::{Outcome, RunOutcome, step_run};
 use dr_types::{Guest, Status};
 use std::alloc::Global;
 use std::marker::Brand;
 
-/// How a run ended, with its outlet, and what is kept of its machine: nothing where there was none,
-/// for want of memory.
-#[derive(Drop)]
-pub struct StepEnd<O: Outlet> {
-    pub status: Status,
-    pub out: O,
-    pub kept: Option<Kept>,
-}
-
-/// The status of a run, by what the puts behind it answered.
-fn status_of(end: Result<Status, PutFault>) -> Status
-    ensures { result ≡ status_of_end end }
-{
-    match end {
-        Ok(status) => status,
-        Err(PutFault::Outlet) => Status::Outlet,
-        Err(PutFault::Memory) => Status::Memory,
-    }
-}
-
-/// What a machine keeps is all that its run says of it.
-fn keep<N: Name>(machine: Machine<N>) -> Kept
-    ensures is { result ≡ left_of N.guest machine }
-    ensures run { IsRunOf N.guest result }
-    ensures valid { IsValid N.guest }
-{
-    let _recall_guest = machine.guest();
-    let kept = machine.keep();
-    kept.history().recall_lines();
-    kept
-}
-
-/// Puts what stands behind the stream of a run, and keeps what is left of its machine.
-fn finish<N: Name, O: Outlet>(
-    alloc: Global,
-    machine: Machine<N>,
-    end: OutcomeEnd,
-    mut out: O,
-) -> StepEnd<O>
-    requires ends { EndsAs end N.guest machine.past }
-    requires sends { SendsAs end (stream_of N.guest machine.past) N.ports (O.told out) }
-    requires later { N.faults ≤ O.faults out }
-    requires risen { end ≡ OutcomeEnd.Sink → Rose N.faults (O.faults out) }
-    ensures kept { result.kept ≡ Some (left_of N.guest machine) }
-    ensures says { RunSays result.status N.guest result.kept N.ports (O.told result.out) }
-    ensures outlet { result.status ≡ Status.Outlet → Rose N.faults (O.faults result.out) }
-{
-    let status = status_of(put_behind(alloc, &machine, end, &mut out));
-    StepEnd {
-        status,
-        out,
-        kept: Some(keep(machine)),
-    }
-}
-
 /// Runs a guest over rings that the name fixes.
+#[tactic(auto, using(dr_run::proofs::Ending::ends_stand))]
 fn step_named<N: Name, O: Outlet, C: Clock>(
     alloc: Global,
     guest: Guest,
     set: RingSet,
     out: O,
     clock: &C,
-) -> StepEnd<O>
+) -> Finished<O>
     requires guest { guest ≡ N.guest }
     requires valid { IsValid guest }
     requires set { N.rings ≡ set.rings }
@@ -89,6 +32,7 @@ fn step_named<N: Name, O: Outlet, C: Clock>(
     requires ports { O.told out ≡ N.ports }
     requires faults { O.faults out ≡ N.faults }
     ensures says { RunSays result.status guest result.kept (O.told out) (O.told result.out) }
+    ensures scheduled { IfSome result.kept (λ k. SchedulesAs result.status k.guest k.past) }
     ensures times { IfSome result.kept (λ k. All (C.reads clock.now) (times k.past)) }
     ensures outlet { result.status ≡ Status.Outlet → Rose (O.faults out) (O.faults result.out) }
     ensures unput { result.kept ≡ None → result.out ≡ out }
@@ -97,7 +41,7 @@ fn step_named<N: Name, O: Outlet, C: Clock>(
     let Outcome { machine, end } = outcome;
     match machine {
         Some(machine) => finish(alloc, machine, end, out),
-        None => StepEnd {
+        None => Finished {
             status: Status::Memory,
             out,
             kept: None,
@@ -106,16 +50,17 @@ fn step_named<N: Name, O: Outlet, C: Clock>(
 }
 
 /// Runs a guest over new rings, and puts all that its run leaves.
-pub fn step<O: Outlet, C: Clock>(alloc: Global, guest: Guest, out: O, clock: &C) -> StepEnd<O>
+pub fn step<O: Outlet, C: Clock>(alloc: Global, guest: Guest, out: O, clock: &C) -> Finished<O>
     requires { IsValid guest }
     ensures says { RunSays result.status guest result.kept (O.told out) (O.told result.out) }
+    ensures scheduled { IfSome result.kept (λ k. SchedulesAs result.status k.guest k.past) }
     ensures times { IfSome result.kept (λ k. All (C.reads clock.now) (times k.past)) }
     ensures outlet { result.status ≡ Status.Outlet → Rose (O.faults out) (O.faults result.out) }
     ensures unput { result.kept ≡ None → result.out ≡ out }
 {
     match rings_for(alloc, &guest) {
         Ok(set) => step_named::<Brand, O, C>(alloc, guest, set, out, clock),
-        Err(_) => StepEnd {
+        Err(_) => Finished {
             status: Status::Memory,
             out,
             kept: None,

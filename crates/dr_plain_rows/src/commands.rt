@@ -53,6 +53,15 @@ pub fn ends(alloc: Global, words: &[&str], file: &[u8], status: Status) -> bool 
     }
 }
 
+/// A command on a file is left alone: there is no status, nothing was put, and nothing is kept.
+/// `false` also where memory is refused.
+pub fn is_left(alloc: Global, words: &[&str], file: &[u8]) -> bool {
+    match command(alloc, words, file) {
+        Ok(end) => end.status.is_none() && end.kept.is_none() && is_empty(&end.out),
+        Err(_) => false,
+    }
+}
+
 /// The journal of what is kept: its guest in canonical text, and its events.
 fn journal_of(alloc: Global, kept: &Kept) -> Result<String, Memory> {
     let guest = write_guest(alloc, kept.guest())?;

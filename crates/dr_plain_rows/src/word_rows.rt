@@ -1,6 +1,6 @@
 //! The words of a command.
 
-use crate::commands::ends;
+use crate::commands::{ends, is_left};
 use dr_types::{FileFault, Status};
 use std::test::Fail;
 
@@ -20,6 +20,12 @@ const OTHER_ROWS: &[&[&str]] = &[
     &["step", "-i", "a"],
     &["step", "--", "a"],
     &["--in", "a", "step"],
+    &["run", "run"],
+    &["run", "step"],
+    &["run", "--in"],
+    &["run", "--json"],
+    &["run", "--image", "a", "--image", "b"],
+    &["--in", "a", "run"],
 ];
 
 #[test]
@@ -54,6 +60,31 @@ fn takes_each_option_once(rt: HostRuntime) -> Result<(), Fail> {
     let status = Status::GuestFile(FileFault::Magic { no: 1 });
     for &row in STEP_ROWS {
         assert!(rt; ends(rt.alloc(), row, b"", status), "at {row:?}");
+    }
+    Ok(())
+}
+
+/// Words that are the command `run`, which needs threads.
+const RUN_ROWS: &[&[&str]] = &[
+    &["run"],
+    &["run", "--in", "step"],
+    &[
+        "run",
+        "--journal",
+        "a",
+        "--image",
+        "a",
+        "--in",
+        "a",
+        "--stream",
+        "a",
+    ],
+];
+
+#[test]
+fn leaves_a_run_alone(rt: HostRuntime) -> Result<(), Fail> {
+    for &row in RUN_ROWS {
+        assert!(rt; is_left(rt.alloc(), row, b""), "at {row:?}");
     }
     Ok(())
 }

@@ -17,7 +17,9 @@ use Rattle.dr_bench.specs.declared.bench.BenchFault.TheVariants as fault
 use Rattle.dr_schedule_law.specs.Schedule.{Follows, CutAtTurn, IsScheduled}
 use Rattle.dr_schedule_law.proofs.Scheduled.{following_is_scheduled}
 use Rattle.dr_migrate.specs.Driving.{AddsRead, IsEnd}
-use Rattle.dr_run.specs.Outcomes.{EndsAs, end_of_drive, ends_switched}
+use Rattle.dr_run.specs.declared.outcome.OutcomeEnd.{OutcomeEnd}
+use Rattle.dr_run.specs.declared.outcome.OutcomeEnd.TheVariants as outcome
+use Rattle.dr_run.specs.Outcomes.{EndsAs, StandsAs, end_of_drive, ends_switched}
 
 -- nothing follows the switch-over
 last_is : (guest : Guest) (past : List Event) → IsLegalSoFar guest past → list_any is_switched past ≡ true → ends_switched past ≡ true
@@ -45,6 +47,22 @@ ends_as guest first past (Ok end.Budget) none legal is follows cut =
 ends_as guest first past (Ok end.Open) none legal is follows cut = absurd is
 ends_as guest first past (Err fault.Sink) none legal is follows cut = cut_first guest first past none cut
 ends_as guest first past (Err fault.Memory) none legal is follows cut = cut_first guest first past none cut
+
+-- the run stands at the end of the drive, wherever that began
+pub stands_as : (guest : Guest) (past : List Event) (r : Result RunEnd BenchFault) → IsLegalSoFar guest past
+    → IfOk r (IsEnd guest past) → StandsAs (end_of_drive r) guest past
+stands_as guest past (Ok end.Switched) legal is = last_is guest past legal is
+stands_as guest past (Ok end.Budget) legal is = is
+stands_as guest past (Ok end.Open) legal is = absurd is
+stands_as guest past (Err fault.Sink) legal is = tt
+stands_as guest past (Err fault.Memory) legal is = tt
+
+-- .. and so where the events are as an end says
+pub ends_stand : (guest : Guest) (past : List Event) (e : OutcomeEnd) → EndsAs e guest past → StandsAs e guest past
+ends_stand guest past outcome.Switched ends = ends.last
+ends_stand guest past outcome.Budget ends = ends.spent
+ends_stand guest past outcome.Sink ends = tt
+ends_stand guest past outcome.Memory ends = tt
 
 -- the times that a drive added before any event are all
 pub all_read : (reads : ℕ → Type 0) (first past : List Event) → first ≡ [] → AddsRead reads first past

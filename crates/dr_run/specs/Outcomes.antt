@@ -39,6 +39,14 @@ EndsAs outcome.Budget guest past = HasSpent guest past
 EndsAs outcome.Sink guest past = CutAtTurn guest [] past
 EndsAs outcome.Memory guest past = CutAtTurn guest [] past
 
+-- Where the run then stands, in whatever order its turns came: at a switch-over, which is the last
+-- event, or where its rounds are spent. Of a run that was cut off nothing more is said.
+abbrev pub StandsAs : OutcomeEnd → Guest → List Event → Type 0
+StandsAs outcome.Switched guest past = ends_switched past ≡ true
+StandsAs outcome.Budget guest past = run_end guest past ≡ end.Budget
+StandsAs outcome.Sink guest past = Unit {0}
+StandsAs outcome.Memory guest past = Unit {0}
+
 -- what the ports then tell: Stream has grown by this stream, or by a first part of it where a put
 -- failed; the other ports are what they were
 abbrev pub SendsAs : OutcomeEnd → List ℕ → Ports → Ports → Type 0

@@ -5,5 +5,5 @@
 mod outcome;
 mod run;
 
-pub use outcome::{Outcome, OutcomeEnd, RunOutcome};
-pub use run::step_run;
+pub use outcome::{Outcome, OutcomeEnd, RunOutcome, end_of};
+pub use run::{Ready, make_ready, step_run};

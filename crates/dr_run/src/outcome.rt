@@ -35,7 +35,7 @@ pub struct RunOutcome<N: Name, O: Outlet> {
 }
 
 /// How a drive ended, as the end of its run. A drive never answers that it is still open.
-pub(crate) fn end_of(drive: Result<RunEnd, BenchFault>) -> OutcomeEnd
+pub fn end_of(drive: Result<RunEnd, BenchFault>) -> OutcomeEnd
     ensures { result ≡ end_of_drive drive }
 {
     match drive {

@@ -22,14 +22,14 @@ use std::alloc::Global;
 
 /// What a run needs: a machine of which nothing has happened, its rings, and a collector of them.
 #[derive(Drop)]
-struct Ready<N: Name> {
-    machine: Machine<N>,
-    rings: Rings<N>,
-    collector: Collector<N>,
+pub struct Ready<N: Name> {
+    pub machine: Machine<N>,
+    pub rings: Rings<N>,
+    pub collector: Collector<N>,
 }
 
 /// Makes all that a run needs.
-fn make_ready<N: Name>(alloc: Global, guest: Guest, set: RingSet) -> Result<Ready<N>, Memory>
+pub fn make_ready<N: Name>(alloc: Global, guest: Guest, set: RingSet) -> Result<Ready<N>, Memory>
     requires guest { guest ≡ N.guest }
     requires valid { IsValid guest }
     requires set { N.rings ≡ set.rings }

@@ -3,8 +3,8 @@ use Rattle.dr_types.specs.declared.status.Status.{Status}
 use Rattle.dr_machine.specs.Views.{KeptView}
 use Rattle.dr_plain.specs.Ended.{left_of, status_of_end}
 use Rattle.dr_plain.specs.Top.{IsRunOf, RunSays}
-use Rattle.dr_plain.proofs.Finishing.{cut_anyhow, run_says}
-use Rattle.dr_plain.proofs.step.finish.Goals as goal
+use Rattle.dr_plain.proofs.Finishing.{run_says}
+use Rattle.dr_plain.proofs.leaving.finish.Goals as goal
 
 pub returns-clause-says : goal.returns-clause-says
 returns-clause-says g c =
@@ -12,8 +12,8 @@ returns-clause-says g c =
     let told = g.O.Outlet.told c.put_behind.new.out in
     let remaining = left_of guest c.args.machine in
     let put = c.put_behind.ensures in
-    let says = run_says guest remaining g.N.Name.ports told c.put_behind.result c.keep.ensures.valid
+    let says = run_says guest remaining g.N.Name.ports told c.args.end c.put_behind.result c.keep.ensures.valid
     (subst (λ (k : KeptView). IsRunOf guest k) c.keep.ensures.is c.keep.ensures.run)
-    (cut_anyhow guest c.args.machine.past c.args.end c.requires.ends) put.whole put.done put.cut in
+    c.requires.stands put.whole put.done put.cut in
     subst (λ (s : Status). RunSays s guest (Some c.keep.result) g.N.Name.ports told) (sym c.status_of-status.ensures)
     (subst (λ (k : KeptView). RunSays (status_of_end c.put_behind.result) guest (Some k) g.N.Name.ports told) (sym c.keep.ensures.is) says)

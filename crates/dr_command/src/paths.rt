@@ -1,7 +1,6 @@
-ghost use Rattle.std.specs.Prelude.{◌≡◌, ◌+◌, ◌<◌, ◌^◌, Some, string_bytes, length, map};
+ghost use Rattle.std.specs.Prelude.{◌≡◌, ◌+◌, ◌<◌, ◌^◌, Some, string_bytes, length, map, drop};
 ghost use Rattle.std.specs.Str.{bytes_eq};
-ghost use Rattle.dr_command.specs.Words.{is_step, no_paths, said_once, step_of, with_named};
-ghost use Rattle.dr_command.specs.Words.{with_option};
+ghost use Rattle.dr_command.specs.Words.{no_paths, paths_from, said_once, with_named, with_option};
 
 /// Where the paths of a command stand among its words; `None` for a path that isn't said.
 #[derive(Clone, Copy, Debug, PartialEq, Eq, Drop)]
@@ -68,15 +67,12 @@ fn with_option(paths: Paths, name: &str, path: &str, at: usize) -> Option<Paths>
     }
 }
 
-/// The paths that a command says: the word `step`, and then each option at most once, with the next
-/// word as its path. `None` where the words are no command.
-pub fn read_words(words: &[String]) -> Option<Paths>
-    ensures { result ≡ step_of (map string_bytes words.now) }
+/// The paths that the words after the first say: each option at most once, with the next word as
+/// its path. `None` where they say something else.
+pub(crate) fn read_paths(words: &[String]) -> Option<Paths>
+    ensures { result ≡ paths_from (drop 1 (map string_bytes words.now)) 1 (Some no_paths) }
 {
     let mut paths = Paths::none();
-    if words.is_empty() || words[0].as_str() != "step" {
-        return None;
-    }
     let mut at = 1;
     while at < words.len() {
         if at + 1 == words.len() {
@@ -86,11 +82,4 @@ pub fn read_words(words: &[String]) -> Option<Paths>
         at += 2;
     }
     Some(paths)
-}
-
-/// The words are the command `step`.
-pub fn is_step(words: &[String]) -> bool
-    ensures { result ≡ is_step (map string_bytes words.now) }
-{
-    read_words(words).is_some()
 }
