@@ -24,7 +24,7 @@ use crate::standard::hold_standard;
 use dr_command::{Paths, read_command};
 use dr_history::Event;
 use dr_io::{FixedClock, OpenGate, Outlet, ReadSource, Source};
-use dr_io_files::{FileIdentity, FilePorts, OwnedFiles, PathOpener, PortPaths};
+use dr_io_files::{FileIdentity, FilePorts, OwnedFiles, PathOpener, PortFault, PortPaths};
 use dr_live::{LiveEnd, live_main};
 use dr_machine::Kept;
 use dr_plain::{PlainEnd, plain_main};
@@ -113,6 +113,26 @@ fn command<R: Threads + Wait + Sync, S: Source, O: Outlet + Send>(
     }
 }
 
+/// What is known of a command that ended so.
+fn refusal_of<'a>(
+    words: &'a [String],
+    status: Status,
+    file: Option<&'a [u8]>,
+    unread: Option<io::Error>,
+    unwritten: Option<PortFault>,
+    spent: Option<Spent>,
+) -> Refusal<'a> {
+    let paths = paths_of(words);
+    Refusal {
+        status,
+        paths,
+        file,
+        unread,
+        unwritten,
+        spent,
+    }
+}
+
 /// Says why a command was not done, where it wasn't, and answers the exit code.
 fn explain_end(rt: &(impl Eprint + AllocGlobal), refusal: &Refusal<'_>) -> u8 {
     // Where standard error is closed, the exit code alone says it.
@@ -170,13 +190,15 @@ fn main(rt: HostRuntime) -> Result<ExitCode, io::Error> {
     let opener = PathOpener::new(&rt, ports, owned_files(&rt, paths.input()));
     let out = FilePorts::new(alloc, io::writer(&rt), opener);
     let LiveEnd { status, out, kept } = command(&rt, alloc, words.as_slice(), &mut source, out);
-    let refusal = Refusal {
+    let unwritten = out.finish();
+    let spent = kept.as_ref().and_then(spent_of);
+    let refusal = refusal_of(
+        words.as_slice(),
         status,
-        paths,
-        file: source.kept(),
-        unread: cause.get(),
-        unwritten: out.finish(),
-        spent: kept.as_ref().and_then(spent_of),
-    };
+        source.kept(),
+        cause.get(),
+        unwritten,
+        spent,
+    );
     Ok(ExitCode::from(explain_end(&rt, &refusal)))
 }

@@ -17,10 +17,10 @@ fn run<G: Gate + Sync, R: Threads + Wait + Sync>(
     file: &[u8],
     gate: &G,
 ) -> Result<LiveEnd<PortBook>, AllocError> {
+    let words = vec![in alloc; String::from_str(alloc, "run")?]?;
     let bytes = Listed::from_vec(file.to_vec(alloc)?);
     let mut source = ByteSource::new(bytes, 4096, Listed::new(alloc));
     let out = PortBook::new(alloc, Listed::new(alloc));
-    let words = vec![in alloc; String::from_str(alloc, "run")?]?;
     let clock = FixedClock { now: 0 };
     Ok(live_main(rt, alloc, words.as_slice(), &mut source, out, &clock, gate))
 }

@@ -9,6 +9,8 @@ mod cut_rows;
 #[cfg(test)]
 mod judged_rows;
 #[cfg(test)]
+mod nap_rows;
+#[cfg(test)]
 mod runs;
 #[cfg(test)]
 mod small_rows;

@@ -11,9 +11,9 @@ use std::test::Fail;
 fn migrates_the_usual_guest(rt: HostRuntime) -> Result<(), Fail> {
     let alloc = rt.alloc();
     let file = usual_guest(alloc)?;
+    let report = usual_report(alloc, 7)?;
     let end = run(&rt, alloc, &file, &[], 7)?;
     assert!(rt; end.status == Status::Done, "the status");
-    let report = usual_report(alloc, 7)?;
     assert!(rt;
         end.out.bytes(Port::Report) == report.as_bytes(),
         "the report"

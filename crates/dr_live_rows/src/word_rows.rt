@@ -1,6 +1,7 @@
 //! The words of a command.
 
 use crate::runs::command;
+use dr_io::FixedClock;
 use dr_plain_testing::lengths;
 use dr_types::{FileFault, Status};
 use std::alloc::{AllocError, Global};
@@ -29,7 +30,7 @@ fn ends<R: Threads + Wait + Sync>(
     words: &[&str],
     status: Status,
 ) -> Result<bool, AllocError> {
-    let end = command(rt, alloc, words, "", &[], 0)?;
+    let end = command(rt, alloc, words, "", &[], &FixedClock { now: 0 })?;
     let nothing = end.kept.is_none() && lengths(&end.out) == [0, 0, 0, 0];
     Ok(end.status == status && nothing)
 }
