@@ -9,17 +9,20 @@ folder="$(mktemp -d /tmp/threads.XXXXXX)"
 trap 'rm -rf "$folder"' EXIT
 
 # So many vCPUs that paint the pages, each its own share, and are paced by it. After the start each stores eight bytes in
-# its share of 4,000 pages, and leaves the guest with a full ring now and then.
+# its share of 4,000 pages, with some additions after each store, so that pages are written beside their first copies.
 guest() {
     awk -v vcpus="$1" -v pages=16384 'BEGIN {
         own = pages / vcpus
         again = 4000 / vcpus
-        print "dirtyguest 1\nring 256\nreserve 16\nbuffer 16\npace " own "\nthreshold 0\nrounds 8\nquota 0"
+        print "dirtyguest 1\nring 256\nreserve 16\nbuffer 16\npace " own "\nthreshold 0\nrounds 15\nquota 0"
         print "slot 0 0 " pages
         for (v = 0; v < vcpus; v++) {
             print "vcpu"
             for (i = 0; i < own; i++) printf "f %d %02x\n", v * own + i, (v * 31 + i) % 256
-            for (i = 0; i < again; i++) printf "w %d %016x\n", (v * own + i * 4) * 4096 + i % 500 * 8, v * 1000 + i
+            for (i = 0; i < again; i++) {
+                printf "w %d %016x\n", (v * own + i * 4) * 4096 + i % 500 * 8, v * 1000 + i
+                print "rep 30\na 1\nend"
+            }
             print "halt"
         }
     }'
