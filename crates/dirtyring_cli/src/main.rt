@@ -2,40 +2,23 @@
 //! it.
 #![tactic(auto)]
 
-ghost use Rattle.std.specs.Prelude.{◌≡◌, ◌↔◌, false, None, map, string_bytes};
-ghost use Rattle.dr_command.specs.Words.{is_command};
-ghost use Rattle.dr_plain.specs.Input.{Takes};
-ghost use Rattle.dr_plain.specs.Top.{Says};
-
-mod paths;
-mod refusal;
-mod shown;
-mod source;
 mod standard;
-#[cfg(test)]
-mod tests;
 
-use crate::paths::NamedPaths;
-use crate::refusal::{
-    Refusal, Spent, exit_code, last_code, print_no_memory, print_refusal, print_unheld, print_usage,
-};
-use crate::source::{InputFile, KeptSource, NotedReader};
 use crate::standard::hold_standard;
-use dr_command::{Paths, read_command};
 use dr_history::Event;
-use dr_io::{FixedClock, OpenGate, Outlet, ReadSource, Source};
+use dr_input::{InputFile, KeptSource, NotedReader};
+use dr_io::ReadSource;
 use dr_io_files::{FileIdentity, FilePorts, OwnedFiles, PathOpener, PortFault, PortPaths};
-use dr_live::{LiveEnd, live_main};
+use dr_live::LiveEnd;
 use dr_machine::Kept;
-use dr_plain::{PlainEnd, plain_main};
+use dr_refusal::{
+    NamedPaths, Refusal, Spent, explain_end, refuse_memory, refuse_unheld, refuse_words,
+};
+use dr_top::command;
 use dr_types::Status;
-use std::alloc::Global;
 use std::cell::Cell;
-use std::io::ErrorKind;
 use std::process::ExitCode;
 use std::rt::Files;
-use std::sync::Wait;
-use std::thread::Threads;
 use std::{env, fs, io};
 
 /// The words after the program's name.
@@ -81,38 +64,6 @@ fn spent_of(kept: &Kept) -> Option<Spent> {
     None
 }
 
-/// The paths of the command that the words are.
-fn paths_of(words: &[String]) -> NamedPaths<'_> {
-    let places = match read_command(words) {
-        Some(command) => command.paths(),
-        None => Paths::none(),
-    };
-    NamedPaths { words, places }
-}
-
-/// Does the command of these words, in threads where it needs them.
-fn command<R: Threads + Wait + Sync, S: Source, O: Outlet + Send>(
-    rt: &R,
-    alloc: Global,
-    words: &[String],
-    source: &mut S,
-    out: O,
-) -> LiveEnd<O>
-    ensures words { (result.status ≡ Status.Words)
-        ↔ (is_command (map string_bytes words.now) ≡ false) }
-    ensures says { Says result.status (S.remaining source.old) result.kept
-        (O.told out) (O.told result.out) }
-    ensures takes { Takes result.status (S.remaining source.old) (S.remaining source.new) }
-    ensures unput { result.kept ≡ None → result.out ≡ out }
-{
-    let clock = FixedClock { now: 0 };
-    let PlainEnd { status, out, kept } = plain_main(alloc, words, source, out, &clock);
-    match status {
-        Some(status) => LiveEnd { status, out, kept },
-        None => live_main(rt, alloc, words, source, out, &clock, &OpenGate),
-    }
-}
-
 /// What is known of a command that ended so.
 fn refusal_of<'a>(
     words: &'a [String],
@@ -122,7 +73,7 @@ fn refusal_of<'a>(
     unwritten: Option<PortFault>,
     spent: Option<Spent>,
 ) -> Refusal<'a> {
-    let paths = paths_of(words);
+    let paths = NamedPaths::of(words);
     Refusal {
         status,
         paths,
@@ -133,41 +84,13 @@ fn refusal_of<'a>(
     }
 }
 
-/// Says why a command was not done, where it wasn't, and answers the exit code.
-fn explain_end(rt: &(impl Eprint + AllocGlobal), refusal: &Refusal<'_>) -> u8 {
-    // Where standard error is closed, the exit code alone says it.
-    print_refusal(rt, refusal).unwrap_or(());
-    last_code(refusal.status, refusal.unwritten.is_none())
-}
-
-/// What is said where the words can't be had: one is no text, or memory ran out.
-fn refuse_words(rt: &impl Eprint, why: io::Error) -> u8 {
-    if why.kind() == ErrorKind::InvalidData {
-        print_usage(rt).unwrap_or(());
-        exit_code(Status::Words)
-    } else {
-        refuse_memory(rt)
-    }
-}
-
-fn refuse_memory(rt: &impl Eprint) -> u8 {
-    print_no_memory(rt).unwrap_or(());
-    exit_code(Status::Memory)
-}
-
-/// What is said where standard input and output can't be held.
-fn refuse_unheld(rt: &impl Eprint, why: io::Error) -> u8 {
-    print_unheld(rt, why).unwrap_or(());
-    exit_code(Status::Outlet)
-}
-
 /// The words of the program and the paths of its ports, or the exit code where they can't be had.
 fn begin(rt: &HostRuntime) -> Result<(Vec<String>, PortPaths), u8> {
     let words = match command_words(rt) {
         Ok(words) => words,
         Err(why) => return Err(refuse_words(rt, why)),
     };
-    match paths_of(words.as_slice()).ports() {
+    match NamedPaths::of(words.as_slice()).ports() {
         Ok(ports) => Ok((words, ports)),
         Err(_) => Err(refuse_memory(rt)),
     }
@@ -183,7 +106,7 @@ fn main(rt: HostRuntime) -> Result<ExitCode, io::Error> {
         Err(code) => return Ok(ExitCode::from(code)),
     };
     let alloc = rt.alloc();
-    let paths = paths_of(words.as_slice());
+    let paths = NamedPaths::of(words.as_slice());
     let cause = Cell::new(None);
     let input = NotedReader::new(open_input(&rt, paths.input()), &cause);
     let mut source = KeptSource::new(alloc, ReadSource::new(input));

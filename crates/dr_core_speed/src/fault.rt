@@ -3,8 +3,8 @@
 ghost use Rattle.std.specs.Prelude.{◌≡◌, length};
 ghost use Rattle.dr_core_speed.specs.Faults.{code_of, refusal_of};
 
-use crate::asks::events;
 use dr_core::{Core, CoreFault};
+use dr_simulation::events;
 use dr_types::{FileFault, Memory};
 use thiserror::Error;
 

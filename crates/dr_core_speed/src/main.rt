@@ -2,16 +2,12 @@
 //! measured from outside, and prints how many events of each kind it took.
 #![tactic(auto)]
 
-mod asks;
 mod counts;
 mod fault;
-mod migration;
 mod request;
-mod rings;
 mod run;
 mod sample;
 mod tally;
-mod vcpus;
 
 use crate::counts::{Counts, print_counts};
 use crate::fault::{RunFault, exit_code};

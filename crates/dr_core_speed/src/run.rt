@@ -6,10 +6,10 @@ ghost use Rattle.dr_history.specs.Legality.{IsLegal};
 
 use crate::counts::Counts;
 use crate::fault::{RunFault, refusal};
-use crate::migration::migrate;
 use crate::request::Request;
 use crate::sample::sample_guest;
 use dr_core::Core;
+use dr_simulation::migrate;
 use dr_types::Guest;
 use std::alloc::Global;
 

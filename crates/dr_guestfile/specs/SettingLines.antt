@@ -31,6 +31,11 @@ setting_in name low high input = do
 abbrev pub is_ring_size : ℕ → Bool
 is_ring_size n = nat_le 4 n && nat_le n 65536 && is_power_of_two n
 
+-- the reserve and the buffer together are less than the ring
+abbrev pub room_in : Setting → Setting → Setting → Result (Unit {0}) FileFault
+room_in ring reserve buffer =
+    check (nat_lt (reserve.number + buffer.number) ring.number) (fault.Reserve buffer.no)
+
 -- the settings, and the lines after them
 unfoldable pub settings_in : Input → Result (Settings × Input) FileFault
 settings_in input = do
@@ -38,8 +43,7 @@ settings_in input = do
   sized ← check (is_ring_size ring.0.number) (fault.RingSize ring.0.no)
   reserve ← setting_in (codes "reserve") 1 65535 ring.1
   buffer ← setting_in (codes "buffer") 0 512 reserve.1
-  room ← check (nat_lt (reserve.0.number
-      + buffer.0.number) ring.0.number) (fault.Reserve buffer.0.no)
+  room ← room_in ring.0 reserve.0 buffer.0
   pace ← setting_in (codes "pace") 1 200000 buffer.1
   threshold ← setting_in (codes "threshold") 0 16384 pace.1
   rounds ← setting_in (codes "rounds") 1 64 threshold.1

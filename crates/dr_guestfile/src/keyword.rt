@@ -30,7 +30,7 @@ pub enum Keyword {
 }
 
 /// All keywords.
-const KEYWORDS: [Keyword; 19] = [
+pub const KEYWORDS: [Keyword; 19] = [
     Keyword::Dirtyguest,
     Keyword::Ring,
     Keyword::Reserve,
@@ -89,14 +89,6 @@ impl Keyword {
             .copied()
             .find(|keyword| keyword.spelling() == word)
     }
-}
-
-/// The word is a keyword but for capital letters in it.
-pub fn is_miscased(word: &[u8]) -> bool {
-    let is_keyword = KEYWORDS
-        .iter()
-        .any(|keyword| keyword.spelling().eq_ignore_ascii_case(word));
-    is_keyword && Keyword::of(word).is_none()
 }
 
 /// The keyword that a line begins with, if it does, and the words after the first.

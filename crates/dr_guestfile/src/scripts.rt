@@ -14,7 +14,7 @@ use dr_types::{FileFault, Item, Op, OpList, Script, ScriptList, What};
 use std::alloc::Global;
 
 /// The sections that have their `halt`.
-#[derive(Debug, Drop)]
+#[derive(Drop)]
 pub struct Done {
     pub scripts: ScriptList,
     /// The expanded ops so far, those of the section that goes on too.
@@ -22,7 +22,7 @@ pub struct Done {
 }
 
 /// A part of a script that is repeated, up to here.
-#[derive(Debug, Drop)]
+#[derive(Drop)]
 pub struct Repeat {
     /// The items before it.
     pub script: Script,
@@ -31,7 +31,7 @@ pub struct Repeat {
 }
 
 /// Where the next line stands.
-#[derive(Debug, Drop)]
+#[derive(Drop)]
 pub enum Place {
     /// Before a `vcpu` line.
     Between,
@@ -41,7 +41,7 @@ pub enum Place {
 }
 
 /// What the lines so far say of the vCPU sections.
-#[derive(Debug, Drop)]
+#[derive(Drop)]
 pub struct Sections {
     pub done: Done,
     pub place: Place,

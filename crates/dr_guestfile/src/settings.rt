@@ -1,6 +1,6 @@
 ghost use Rattle.std.specs.Prelude.{◌≡◌, ◌≤◌, IfOk};
 ghost use Rattle.dr_guestfile_lines.specs.Reading.{Reads};
-ghost use Rattle.dr_guestfile.specs.SettingLines.{setting_of, setting_in, settings_in};
+ghost use Rattle.dr_guestfile.specs.SettingLines.{setting_of, setting_in, room_in, settings_in};
 ghost use Rattle.dr_guestfile.specs.SettingLines.{is_ring_size as ring_size};
 
 use dr_guestfile_lines::{Line, Lines, number};
@@ -11,7 +11,7 @@ use dr_types::limits::{
 use dr_types::{FileFault, Settings};
 
 /// A setting's number, and the number of its line.
-#[derive(Clone, Copy, Debug)]
+#[derive(Clone, Copy)]
 pub struct Setting {
     pub no: u64,
     pub number: u64,
@@ -56,6 +56,18 @@ pub fn is_ring_size(size: u64) -> bool
     u64::from(LEAST_RING) <= size && size <= u64::from(GREATEST_RING) && size.is_power_of_two()
 }
 
+/// The fault of a reserve and a buffer that fill the ring.
+fn leave_room(ring: Setting, reserve: Setting, buffer: Setting) -> Result<(), FileFault>
+    requires reserve { reserve.number ≤ 65535 }
+    requires buffer { buffer.number ≤ 512 }
+    ensures { result ≡ room_in ring reserve buffer }
+{
+    if reserve.number + buffer.number >= ring.number {
+        return Err(FileFault::Reserve { no: buffer.no });
+    }
+    Ok(())
+}
+
 /// The lines from `ring` to `quota`, in this order.
 #[tactic(auto, unfolding(crate::specs::SettingLines::settings_in))]
 pub fn settings(input: &mut Lines<'_>) -> Result<Settings, FileFault>
@@ -67,9 +79,7 @@ pub fn settings(input: &mut Lines<'_>) -> Result<Settings, FileFault>
     }
     let reserve = setting_line(input, b"reserve", 1, u64::from(GREATEST_RESERVE))?;
     let buffer = setting_line(input, b"buffer", 0, u64::from(GREATEST_BUFFER))?;
-    if reserve.number + buffer.number >= ring.number {
-        return Err(FileFault::Reserve { no: buffer.no });
-    }
+    leave_room(ring, reserve, buffer)?;
     let pace = setting_line(input, b"pace", 1, u64::from(GREATEST_PACE))?;
     let threshold = setting_line(input, b"threshold", 0, u64::from(GREATEST_THRESHOLD))?;
     let rounds = setting_line(input, b"rounds", 1, u64::from(MOST_ROUNDS))?;

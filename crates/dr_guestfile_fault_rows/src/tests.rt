@@ -1,6 +1,7 @@
 //! What is said of each fault: its line, and the text behind it.
 
-use dr_guestfile::{Explained, explain, read_guest};
+use dr_guestfile::read_guest;
+use dr_guestfile_explain::{Explained, explain};
 use dr_types::{FileFault, What};
 use std::alloc::{AllocError, Global};
 use std::test::Fail;

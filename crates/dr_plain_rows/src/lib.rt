@@ -1,5 +1,6 @@
 //! The top call as tables: which words are a command, which files are refused, which guests are
-//! run, and what is kept of a run. What a run leaves on its ports stands in `dr_plain_port_rows`.
+//! run, and what is kept of a run and of its source. What a run leaves on its ports stands in
+//! `dr_plain_port_rows`.
 #![tactic(auto)]
 
 #[cfg(test)]
@@ -8,5 +9,7 @@ mod commands;
 mod file_rows;
 #[cfg(test)]
 mod kept_rows;
+#[cfg(test)]
+mod source_rows;
 #[cfg(test)]
 mod word_rows;
