@@ -1,5 +1,5 @@
 ghost use Rattle.std.specs.Prelude.{◌≡◌, ◌<◌, ◌≤◌, ◌+◌, ◌^◌, true, reverse, [], ◌∷◌, All, OnOk};
-ghost use Rattle.std.specs.Prelude.{OnErr, IfOk};
+ghost use Rattle.std.specs.Prelude.{OnErr, IfOk, slice_set};
 ghost use Rattle.dr_types.specs.Pages.{page_count};
 ghost use Rattle.dr_types.specs.Validity.{IsValid};
 ghost use Rattle.dr_history.specs.Legality.{IsLegalSoFar};
@@ -90,10 +90,14 @@ impl Log {
         Ok(())
     }
 
-    /// Room for so many more events. An `Err` changes neither guest nor history.
+    /// Room for so many more events, and for nothing else. An `Err` changes neither guest nor
+    /// history.
     pub fn reserve(&mut self, more: u64) -> Result<(), Memory>
         ensures guest { self.new.guest ≡ self.old.guest }
         ensures past { self.new.past ≡ self.old.past }
+        ensures entries { self.new.room.entries ≡ self.old.room.entries }
+        ensures closing { self.new.room.closing ≡ self.old.room.closing }
+        ensures pages { self.new.room.pages ≡ self.old.room.pages }
         ensures ok { OnOk result (more ≤ self.new.room.events) }
     {
         self.history.reserve(more)
@@ -106,28 +110,36 @@ impl Log {
         ensures past { self.new.past ≡ self.old.past }
         ensures events { self.new.room.events ≡ self.old.room.events }
         ensures pages { self.new.room.pages ≡ self.old.room.pages }
+        ensures closing { self.new.room.closing ≡ self.old.room.closing }
         ensures ok { OnOk result (HasEntry v self.new.room) }
     {
         self.state.make_entry_room(v)
     }
 
-    /// Room for a page that a reset closes. An `Err` changes neither guest nor history.
+    /// Room for a page that a reset closes, and for nothing else. An `Err` changes neither guest nor
+    /// history.
     pub fn make_closing_room(&mut self) -> Result<(), Memory>
         ensures guest { self.new.guest ≡ self.old.guest }
         ensures past { self.new.past ≡ self.old.past }
         ensures events { self.new.room.events ≡ self.old.room.events }
+        ensures entries { self.new.room.entries ≡ self.old.room.entries }
+        ensures pages { self.new.room.pages ≡ self.old.room.pages }
         ensures ok { OnOk result (1 ≤ self.new.room.closing) }
     {
         self.state.make_closing_room()
     }
 
-    /// Memory of its own for a page. An `Err` changes neither guest nor history.
+    /// Memory of its own for a page, and for no other. An `Err` changes nothing.
     pub fn make_page_room(&mut self, page: u32) -> Result<(), Memory>
         requires { page < page_count self.old.guest }
         ensures guest { self.new.guest ≡ self.old.guest }
         ensures past { self.new.past ≡ self.old.past }
         ensures events { self.new.room.events ≡ self.old.room.events }
         ensures entries { self.new.room.entries ≡ self.old.room.entries }
+        ensures closing { self.new.room.closing ≡ self.old.room.closing }
+        ensures made { OnOk result (self.new.room.pages
+            ≡ slice_set self.old.room.pages page true) }
+        ensures err { OnErr result (self.new.room ≡ self.old.room) }
         ensures ok { OnOk result (has_page page self.new.room ≡ true) }
     {
         self.state.make_page_room(page)
@@ -162,6 +174,7 @@ impl Log {
         ensures past { self.new.past ≡ Event.Synced r at pages ∷ self.old.past }
         ensures guest { self.new.guest ≡ self.old.guest }
         ensures events { self.old.room.events ≤ self.new.room.events + 1 }
+        ensures pages { self.new.room.pages ≡ self.old.room.pages }
     {
         let _recall_few = self.history.len();
         let e = Event::Synced { r, at, pages };

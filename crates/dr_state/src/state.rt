@@ -1,12 +1,12 @@
 ghost use Rattle.std.specs.Prelude.{◌≡◌, ◌<◌, ◌≤◌, ◌^◌, [], ◌∷◌, true, IfOk, ℕ, List, All, IfSome};
-ghost use Rattle.std.specs.Prelude.{OnOk, length, vec_len, Option, None};
+ghost use Rattle.std.specs.Prelude.{OnOk, OnErr, length, vec_len, Option, None};
 ghost use Rattle.dr_types.specs.declared.guest.Guest.{Guest};
 ghost use Rattle.dr_types.specs.Pages.{page_count};
 ghost use Rattle.dr_history.specs.declared.event.Event.{Event};
 ghost use Rattle.dr_history.specs.Legality.{broken};
 ghost use Rattle.dr_history.specs.Memory.{page_bytes, loaded};
 ghost use Rattle.dr_history.specs.Rounds.{answered_pages};
-ghost use Rattle.dr_memory.specs.Stores.{has_room};
+ghost use Rattle.dr_memory.specs.Stores.{has_room, with_room};
 ghost use Rattle.dr_state.specs.Opened.{OpeningFits, HasRoomAt};
 ghost use Rattle.dr_state.specs.Pages.{IsPageWithin, ClosingFits, page_reset};
 ghost use Rattle.dr_state.specs.Stores.{StoreFits};
@@ -122,6 +122,8 @@ impl State {
             → IsStateOf guest past self.new }
         ensures entries { self.new.entries ≡ self.old.entries }
         ensures closing { self.new.protection ≡ self.old.protection }
+        ensures made { OnOk result (self.new.memory ≡ with_room page self.old.memory) }
+        ensures err { OnErr result (self.new ≡ self.old) }
         ensures ok { OnOk result (has_room page self.new.memory ≡ true) }
     {
         self.memory.make_room(page)
