@@ -1,5 +1,5 @@
 //! The end of a run in threads, found on one thread once they are joined.
-ghost use Rattle.std.specs.Prelude.{◌≡◌, ◌<◌, ◌≤◌, IsTrue};
+ghost use Rattle.std.specs.Prelude.{◌≡◌, ◌<◌, ◌≤◌, IsTrue, true, false};
 ghost use Rattle.dr_types.specs.Ports.{Rose};
 ghost use Rattle.dr_types.specs.Scripts.{vcpu_count};
 ghost use Rattle.dr_history.specs.Stream.{stream_of};
@@ -20,8 +20,10 @@ use std::alloc::Global;
 /// Of v, the deposited entries are those that the collector handed out.
 fn is_deposited<N: Name, O: Outlet>(bench: &Bench<N, O>, collector: &Collector<N>, v: u32) -> bool
     requires { v < vcpu_count N.guest }
-    ensures { IsTrue result
+    ensures deposited { IsTrue result
         → HasAt collector.now v (λ c. AreFirstDeposited v c.handed bench.now.past) }
+    ensures exact { HasAt collector.now v (λ c. AreFirstDeposited v c.handed bench.now.past)
+        → IsTrue result }
 {
     bench.recall_kept();
     match bench.deposited(v) {
@@ -32,7 +34,8 @@ fn is_deposited<N: Name, O: Outlet>(bench: &Bench<N, O>, collector: &Collector<N
 
 /// So it is of each vCPU: no batch is out, and none was lost.
 fn are_all_deposited<N: Name, O: Outlet>(bench: &Bench<N, O>, collector: &Collector<N>) -> bool
-    ensures { IsTrue result → AllDeposited N.guest bench.now.past collector.now }
+    ensures deposited { IsTrue result → AllDeposited N.guest bench.now.past collector.now }
+    ensures exact { AllDeposited N.guest bench.now.past collector.now → IsTrue result }
 {
     bench.recall_kept();
     for v in 0..collector.vcpus() {
@@ -57,6 +60,10 @@ pub fn find_end<N: Name, O: Outlet, C: Clock>(
     ensures sends { SendsAs result (stream_of N.guest bench.new.past) N.ports bench.new.told }
     ensures later { N.faults ≤ bench.new.faults }
     ensures risen { result ≡ OutcomeEnd.Sink → Rose N.faults bench.new.faults }
+    ensures failed { bench.old.failed ≡ true → result ≡ OutcomeEnd.Sink }
+    ensures given_up { bench.old.failed ≡ false → bench.old.over ≡ true
+        → result ≡ OutcomeEnd.Memory }
+    ensures stays { bench.old.over ≡ true → bench.new ≡ bench.old }
 {
     bench.recall_kept();
     if bench.failed() {

@@ -1,14 +1,16 @@
 //! Reaps by a thread. The notes are taken under the machine's lock, the rings are harvested under
 //! the collector's lock alone, and what was harvested is settled under the machine's lock.
-ghost use Rattle.std.specs.Prelude.{◌≡◌, ◌<◌, map, All, IfOk, slice_get, Some, true};
+ghost use Rattle.std.specs.Prelude.{◌≡◌, ◌+◌, ◌<◌, ◌≤◌, ◌⊎◌, map, length, slice_get};
+ghost use Rattle.std.specs.Prelude.{All, IfOk, Some, true};
 ghost use Rattle.dr_types.specs.Scripts.{vcpu_count};
 ghost use Rattle.dr_collector.specs.Batched.{ring_of_note};
 
 use crate::shared::Shared;
+use dr_collector::Collector;
 use dr_io::{Gate, Outlet, Who};
 use dr_reap::{note_of, notes_of, settle};
 use dr_ring::{Name, Note};
-use dr_ring_set::{BatchList, NoteList};
+use dr_ring_set::{BatchList, NoteList, Rings};
 use dr_types::{Listed, Memory};
 use std::alloc::Global;
 use std::sync::Wait;
@@ -48,6 +50,7 @@ fn harvest_all<N: Name, O: Outlet, G: Gate, R: Wait>(
 ) -> Result<BatchList<N>, Memory>
     requires of_rings { map ring_of_note notes ≡ N.rings }
     requires of_kernel { All (λ n. n.by_kernel ≡ true) notes }
+    ensures { IfOk result (λ bs. length bs ≡ length N.rings) }
 {
     let mut collector = shared.collector.lock(rt);
     let batches = collector.harvest_all(shared.rings(), alloc, notes);
@@ -55,7 +58,7 @@ fn harvest_all<N: Name, O: Outlet, G: Gate, R: Wait>(
     batches
 }
 
-/// Harvests v's ring.
+/// Harvests v's ring, with the collector's lock.
 fn harvest_one<N: Name, O: Outlet, R: Wait>(
     rt: &R,
     shared: &Shared<N, O>,
@@ -66,13 +69,32 @@ fn harvest_one<N: Name, O: Outlet, R: Wait>(
     requires vcpu { v < vcpu_count N.guest }
     requires of_kernel { note.by_kernel ≡ true }
     requires named { slice_get N.rings v ≡ Some note.ring }
-    ensures { IfOk result (All (λ b. b.vcpu ≡ v)) }
+    ensures one { IfOk result (λ bs. length bs ≡ 1) }
+    ensures vcpu { IfOk result (All (λ b. b.vcpu ≡ v)) }
+{
+    let mut collector = shared.collector.lock(rt);
+    harvest_lent(&mut *collector, shared.rings(), alloc, v, note)
+}
+
+/// The same, of a collector that is lent. The batch goes as far as the note tells, or is full.
+fn harvest_lent<N: Name>(
+    collector: &mut Collector<N>,
+    rings: &Rings<N>,
+    alloc: Global,
+    v: u32,
+    note: Note,
+) -> Result<BatchList<N>, Memory>
+    requires vcpu { v < length N.rings }
+    requires of_kernel { note.by_kernel ≡ true }
+    requires named { slice_get N.rings v ≡ Some note.ring }
+    ensures one { IfOk result (λ bs. length bs ≡ 1) }
+    ensures vcpu { IfOk result (All (λ b. b.vcpu ≡ v)) }
+    ensures told { IfOk result (All (λ b.
+        (length note.entries ≤ b.first + length b.entries)
+        ⊎ (length b.entries ≡ rings.now.size))) }
 {
     let mut batches = Listed::new(alloc);
-    let batch = shared
-        .collector
-        .lock(rt)
-        .harvest(shared.rings(), alloc, v, Some(note))?;
+    let batch = collector.harvest(rings, alloc, v, Some(note))?;
     batches.push(batch)?;
     Ok(batches)
 }
