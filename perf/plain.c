@@ -1,5 +1,5 @@
 /* The plain program that `step` is measured against: it writes the stream and the image of a guest of so many
-   pages, record by record through buffers of 64 KiB. Each page is painted with one byte (`paint`), or it is zero but for
+   pages, record by record through buffers of 64 KiB, where a run of zero pages is one record. Each page is painted with one byte (`paint`), or it is zero but for
    its first byte (`store`), or the pages 0, 1, 2 and 14336 begin with the number 1,000 and all else is zero (`count`). */
 #include <stdint.h>
 #include <stdio.h>
@@ -21,6 +21,11 @@ static FILE *create(const char *path)
     if (!file || setvbuf(file, NULL, _IOFBF, 65536))
         exit(4);
     return file;
+}
+
+static int is_zero(uint32_t p)
+{
+    return kind == COUNT ? p >= 3 && p != 14336 : p % 256 == 0;
 }
 
 static void put_page(FILE *file, uint32_t p)
@@ -45,14 +50,22 @@ int main(int argc, char **argv)
     FILE *image = create(argv[4]);
     if (fwrite("DRSTREAM", 1, 8, stream) != 8)
         return 4;
-    number(stream, 1), number(stream, pages);
+    number(stream, 2), number(stream, pages);
     number(stream, 1), number(stream, 1);
-    for (uint32_t p = 0; p < pages; p++) {
-        number(stream, 2), number(stream, p);
-        put_page(stream, p);
+    uint32_t records = 0;
+    for (uint32_t p = 0; p < pages; records++) {
+        uint32_t first = p;
+        while (p < pages && is_zero(p))
+            p++;
+        if (p > first) {
+            number(stream, 4), number(stream, first), number(stream, p - first);
+        } else {
+            number(stream, 2), number(stream, p);
+            put_page(stream, p++);
+        }
     }
     number(stream, 1), number(stream, 3);
-    number(stream, 3), number(stream, pages);
+    number(stream, 3), number(stream, records);
     for (uint32_t p = 0; p < pages; p++)
         put_page(image, p);
     return fclose(stream) || fclose(image) ? 4 : 0;

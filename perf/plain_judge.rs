@@ -174,7 +174,11 @@ struct Judge {
     just_opened: Option<usize>,
     /// The vCPU whose throttle is due.
     due: Option<usize>,
-    copies: u32,
+    /// How many records of pages the stream has.
+    records: u32,
+    /// The round and the page that would go on the record of zeros that was begun last, where the last event was a
+    /// copy that is in it.
+    zeros: Option<(u64, usize)>,
     stream: Vec<u8>,
 }
 
@@ -200,7 +204,8 @@ impl Judge {
             owed: None,
             just_opened: None,
             due: None,
-            copies: 0,
+            records: 0,
+            zeros: None,
             stream: Vec::new(),
             guest,
             vcpus,
@@ -402,10 +407,31 @@ impl Judge {
         self.stream.extend(number.to_le_bytes());
     }
 
+    /// Puts a copied page: its bytes, or where it is zero a record of zeros, or one page more in the last.
+    fn put_page(&mut self, r: u64, page: usize, goes_on: bool) {
+        let bytes = self.memory[page * PAGE_BYTES..(page + 1) * PAGE_BYTES].to_vec();
+        let is_zero = bytes.iter().all(|byte| *byte == 0);
+        if is_zero && goes_on {
+            let at = self.stream.len() - 4;
+            let count = u32::from_le_bytes(self.stream[at..].try_into().expect("four bytes"));
+            self.stream.splice(at.., (count + 1).to_le_bytes());
+        } else if is_zero {
+            self.put(4, page as u32);
+            self.stream.extend(1u32.to_le_bytes());
+            self.records += 1;
+        } else {
+            self.put(2, page as u32);
+            self.stream.extend(bytes);
+            self.records += 1;
+        }
+        self.zeros = is_zero.then_some((r, page + 1));
+    }
+
     /// Takes an event that breaks no rule.
     fn take(&mut self, event: Event) {
         self.owed = None;
         self.just_opened = None;
+        let zeros = self.zeros.take();
         if let Some((v, _)) = event.op() {
             let vcpu = &mut self.vcpus[v];
             vcpu.ops += 1;
@@ -418,7 +444,7 @@ impl Judge {
                 self.dirty.fill(true);
                 self.last_time = at;
                 self.stream.extend(b"DRSTREAM");
-                self.put(1, self.guest.pages as u32);
+                self.put(2, self.guest.pages as u32);
             }
             Read { v, value, .. } => self.vcpus[v].register = value,
             Write { addr, ref bytes, .. } => {
@@ -476,12 +502,9 @@ impl Judge {
                 }
             }
             Synced { r, at, pages } => self.take_answer(r, at, pages),
-            Copied { page, .. } => {
+            Copied { r, page } => {
                 self.dirty[page] = false;
-                self.copies += 1;
-                self.put(2, page as u32);
-                let bytes = &self.memory[page * PAGE_BYTES..(page + 1) * PAGE_BYTES];
-                self.stream.extend(bytes);
+                self.put_page(r, page, zeros == Some((r, page)));
                 if let Some(answer) = &mut self.answer {
                     answer.copied += 1;
                 }
@@ -490,7 +513,7 @@ impl Judge {
             Stopped => self.has_stopped = true,
             Switched => {
                 self.has_switched = true;
-                self.put(3, self.copies);
+                self.put(3, self.records);
             }
         }
     }
@@ -517,7 +540,7 @@ impl Judge {
 /// The image that a stream loads as, where it is one.
 fn load(stream: &[u8]) -> Option<Vec<u8>> {
     let word = |at: usize| Some(u32::from_le_bytes(stream.get(at..at + 4)?.try_into().ok()?));
-    if stream.get(..8)? != b"DRSTREAM" || word(8)? != 1 {
+    if stream.get(..8)? != b"DRSTREAM" || word(8)? != 2 {
         return None;
     }
     let pages = word(12)?;
@@ -533,6 +556,16 @@ fn load(stream: &[u8]) -> Option<Vec<u8>> {
                 image[to..to + PAGE_BYTES].copy_from_slice(stream.get(at..at + PAGE_BYTES)?);
                 at += PAGE_BYTES;
                 least = number + 1;
+                records += 1;
+            }
+            4 if round > 0 && least <= number && number < pages => {
+                let count = word(at)?;
+                if count == 0 || count > pages - number {
+                    return None;
+                }
+                image[number as usize * PAGE_BYTES..(number + count) as usize * PAGE_BYTES].fill(0);
+                at += 4;
+                least = number + count;
                 records += 1;
             }
             3 if number == records && at == stream.len() => return Some(image),

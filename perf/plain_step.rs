@@ -92,6 +92,8 @@ struct Migration {
     events: Vec<Event>,
     answers: Vec<Answer>,
     stream: BufWriter<File>,
+    /// How many records of pages the stream has.
+    records: u32,
 }
 
 impl Migration {
@@ -112,6 +114,7 @@ impl Migration {
             events: Vec::new(),
             answers: Vec::new(),
             stream,
+            records: 0,
             guest,
             vcpus,
         }
@@ -124,7 +127,7 @@ impl Migration {
         self.dirty.fill(true);
         self.events.push(Event::Start);
         self.stream.write_all(b"DRSTREAM")?;
-        self.put_record(1, self.guest.pages as u32)?;
+        self.put_record(2, self.guest.pages as u32)?;
         let mut r = 1;
         while self.synchronise(r)? as u64 > self.guest.threshold {
             if u64::from(r) == self.guest.rounds {
@@ -137,8 +140,7 @@ impl Migration {
         self.events.push(Event::Stopped);
         self.synchronise(r + 1)?;
         self.events.push(Event::Switched);
-        let copies: usize = self.answers.iter().map(|answer| answer.copied).sum();
-        self.put_record(3, copies as u32)?;
+        self.put_record(3, self.records)?;
         Ok(true)
     }
 
@@ -338,14 +340,37 @@ impl Migration {
         self.answers.push(Answer { dirty, copied, shares });
     }
 
-    /// The pages of a round are copied into the stream.
+    /// The bytes of a page.
+    fn page(&self, page: u32) -> &[u8] {
+        let at = page as usize * PAGE_BYTES;
+        &self.memory[at..at + PAGE_BYTES]
+    }
+
+    /// How many of these pages, from the first on, are zero and rise by one.
+    fn zeros(&self, pages: &[u32]) -> usize {
+        let is_next = |(i, &page): (usize, &u32)| page == pages[0] + i as u32 && self.page(page) == [0; PAGE_BYTES];
+        pages.iter().enumerate().take_while(|&it| is_next(it)).count()
+    }
+
+    /// The pages of a round are copied into the stream, pages of zeros together.
     fn copy(&mut self, r: u32, pages: &[u32]) -> io::Result<()> {
-        for &page in pages {
-            self.events.push(Event::Copied { r, page });
-            self.put_record(2, page)?;
-            let at = page as usize * PAGE_BYTES;
-            self.stream.write_all(&self.memory[at..at + PAGE_BYTES])?;
-            self.dirty[page as usize] = false;
+        let mut left = pages;
+        while let Some(&first) = left.first() {
+            let zeros = self.zeros(left);
+            let (copied, rest) = left.split_at(zeros.max(1));
+            for &page in copied {
+                self.events.push(Event::Copied { r, page });
+                self.dirty[page as usize] = false;
+            }
+            self.put_record(if zeros > 0 { 4 } else { 2 }, first)?;
+            if zeros > 0 {
+                self.stream.write_all(&(zeros as u32).to_le_bytes())?;
+            } else {
+                let at = first as usize * PAGE_BYTES;
+                self.stream.write_all(&self.memory[at..at + PAGE_BYTES])?;
+            }
+            self.records += 1;
+            left = rest;
         }
         Ok(())
     }

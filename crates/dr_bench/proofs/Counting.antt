@@ -1,5 +1,5 @@
--- How many pages are copied at most.
-use Rattle.std.proofs.Common.{◌≡◌, ℕ, zero, suc, ◌+◌, ◌*◌, ◌^◌, ◌-◌, ◌<◌, ◌≤◌, Bool, true, false, cond, List, [], ◌∷◌, is_some, length, refl, ap, sym, ◌∙◌, arith, add-one, slice_get}
+-- How many pages are copied and sent at most.
+use Rattle.std.proofs.Common.{◌≡◌, ℕ, zero, suc, ◌+◌, ◌*◌, ◌^◌, ◌-◌, ◌<◌, ◌≤◌, Bool, true, false, cond, List, [], ◌∷◌, is_some, length, refl, ap, sym, subst, ◌∙◌, arith, add-one, slice_get}
 use Rattle.std.proofs.lemmas.Bool.{false≢true}
 use Rattle.std.proofs.lemmas.List.{length-append}
 use Rattle.std.proofs.lemmas.List.Sums.{length-filter, count_by-le-length}
@@ -7,12 +7,15 @@ use Rattle.dr_types.specs.declared.guest.Guest.{Guest}
 use Rattle.dr_types.specs.Pages.{page_count}
 use Rattle.dr_types.specs.Validity.{IsValid}
 use Rattle.dr_history.specs.declared.event.Event.{Event}
-use Rattle.dr_history.specs.declared.event.Event.TheVariants.{Asked, Synced, Copied}
+use Rattle.dr_history.specs.declared.event.Event.TheVariants.{Start, Asked, Synced, Copied, Switched}
 use Rattle.dr_history.specs.Dirty.{dirty, dirty_pages}
 use Rattle.dr_history.specs.Kinds.{is_copied, is_synced}
 use Rattle.dr_history.specs.Legality.{IsLegalSoFar}
 use Rattle.dr_history.specs.Lookback.{below, count, is_number}
-use Rattle.dr_history.specs.Rounds.{asks, unanswered, last_synced}
+use Rattle.dr_history.specs.Memory.{page_bytes, zero_page}
+use Rattle.dr_history.specs.Parts.{Part, Round, Page, Zeros, has_pages}
+use Rattle.dr_history.specs.Stream.{follows_zero, lengthened, parts_of, sent_records}
+use Rattle.dr_history.specs.Rounds.{asks, unanswered, last_synced, opens_round}
 use Rattle.dr_history_law.specs.Copies.{copies, pages_of}
 use Rattle.dr_history_law.proofs.Copies.{answers_exactly, copy_facts, next_copy}
 use Rattle.dr_history_law.proofs.Kept.{syncs_facts}
@@ -74,11 +77,47 @@ answers_asked guest (Synced r at pages ∷ past) legal =
     omega arith
 answers_asked guest (e ∷ past) legal = answers_asked guest past legal.1
 
--- how many pages are copied has room in a page count
-pub copied_fits : (guest : Guest) (past : List Event) → IsValid guest → IsLegalSoFar guest past → count is_copied past < 2 ^ 32 - 1
+-- the record of a round has no pages
+pub round_unsent : (opens : Bool) (r : ℕ) (parts : List Part) → count has_pages (cond opens (Round r ∷ parts) parts) ≡ count has_pages parts
+round_unsent true r parts = refl
+round_unsent false r parts = refl
+
+-- how many pages are copied has room in their count
+copied_fits : (guest : Guest) (past : List Event) → IsValid guest → IsLegalSoFar guest past → count is_copied past < 2 ^ 32 - 1
 copied_fits guest past valid legal =
     let sum : count is_copied past + length (pages_of (last_synced past)) ≤ 16384 * count is_synced past + copies past = copied_sum guest past valid.slots.pages legal in
     let few : copies past ≤ length (pages_of (last_synced past)) = copies_few guest past legal in
     let asked : count is_synced past + cond (is_some (unanswered past)) 1 0 ≤ asks past = answers_asked guest past legal in
     let all : asks past ≤ 65 = asks_fit guest past valid legal in
+    omega arith
+
+same_count : (parts : List Part) → count has_pages (lengthened parts) ≡ count has_pages parts
+same_count [] = refl
+same_count (Zeros first n ∷ parts) = refl
+same_count (part ∷ parts) = refl
+
+-- a copied page is one record more, or goes on one
+copy_sent : (zero goes : Bool) (page : ℕ) (bytes : List ℕ) (parts : List Part) → count has_pages (cond zero (cond goes (lengthened parts) (Zeros page 1 ∷ parts)) (Page page bytes ∷ parts)) ≤ count has_pages parts + 1
+copy_sent true true page bytes parts = omega (arith, same_count parts)
+copy_sent true false page bytes parts = omega arith
+copy_sent false goes page bytes parts = omega arith
+
+-- no more records are sent than pages copied
+records_few : (guest : Guest) (past : List Event) → sent_records guest past ≤ count is_copied past
+records_few guest [] = omega arith
+records_few guest (Start at ∷ past) = records_few guest past
+records_few guest (Synced r at pages ∷ past) =
+    subst (λ (n : ℕ). n ≤ count is_copied past) (sym (round_unsent (opens_round guest (Synced r at pages) past) r (parts_of guest past))) (records_few guest past)
+records_few guest (Copied r page ∷ past) =
+    let old : sent_records guest past ≤ count is_copied past = records_few guest past in
+    let one = copy_sent (zero_page guest page past) (follows_zero guest r page past) page (page_bytes guest page past) (parts_of guest past) in
+    omega (arith, old, one)
+records_few guest (Switched ∷ past) = records_few guest past
+records_few guest (e ∷ past) = records_few guest past
+
+-- how many records are sent has room in their count
+pub records_fit : (guest : Guest) (past : List Event) → IsValid guest → IsLegalSoFar guest past → sent_records guest past < 2 ^ 32 - 1
+records_fit guest past valid legal =
+    let few : sent_records guest past ≤ count is_copied past = records_few guest past in
+    let fits : count is_copied past < 2 ^ 32 - 1 = copied_fits guest past valid legal in
     omega arith

@@ -1,39 +1,35 @@
 -- Turns that put nothing on the stream.
-use Rattle.std.proofs.Common.{◌≡◌, ℕ, zero, suc, Bool, true, false, cond, List, [], ◌∷◌, ◌++◌, Option, Some, None, refl, ap, ◌∙◌}
+use Rattle.std.proofs.Common.{◌≡◌, ℕ, zero, suc, Bool, true, false, cond, List, ◌∷◌, Option, Some, None, refl, ap, ◌∙◌}
 use Rattle.std.specs.Prelude.{nat_le, max, Result, Ok, Err, OnOk, OnErr, IfSome}
-use Rattle.std.proofs.lemmas.List.{append-nil}
 use Rattle.dr_types.specs.declared.guest.Guest.{Guest}
 use Rattle.dr_history.specs.declared.event.Event.{Event}
 use Rattle.dr_history.specs.declared.event.Event.TheVariants.{Start, Read, Write, Paint, Local, Halted, Opened, Filled, Pushed, Exited, Deposited, Reset, Flushed, Synced, Copied, Stopped, Switched}
-use Rattle.dr_history.specs.Lookback.{count}
-use Rattle.dr_history.specs.Kinds.{is_copied}
 use Rattle.dr_history.specs.Entries.{opens, pushes, resets}
 use Rattle.dr_history.specs.Rules.{vcpu_of_op}
-use Rattle.dr_history.specs.Stream.{stream_of, record_of}
+use Rattle.dr_history.specs.Rounds.{last_synced}
+use Rattle.dr_history.specs.Stream.{follows_zero, parts_of}
 use Rattle.dr_history.specs.Vcpus.{in_guest, stopped}
 use Rattle.dr_history_law.specs.Room.{unpushed}
 use Rattle.dr_machine.specs.Views.{MachineView}
 use Rattle.dr_turns_law.specs.Deposits.{next_deposited}
 use Rattle.dr_turns.specs.Buffers.{pushed_behind, all_pushed}
-use Rattle.dr_turns.specs.Due.{some_closing}
+use Rattle.dr_turns.specs.Due.{some_closing, round_of}
 use Rattle.dr_turns.specs.Turns.{refusal, executed, after_op, exit_reason, after_exit}
 use Rattle.dr_turns.specs.declared.answers.Turn.{Turn}
 use Rattle.dr_turns_law.proofs.Executing.{by_executed}
 use Rattle.dr_bench.specs.Bench.{IsSilent, IsQuiet}
 
-adds_none : (guest : Guest) (past : List Event) (e : Event) → IsSilent e → record_of guest past e ≡ []
+adds_none : (guest : Guest) (past : List Event) (e : Event) → IsSilent e → parts_of guest (e ∷ past) ≡ parts_of guest past
 adds_none guest past (Start at) is = absurd is
 adds_none guest past (Synced r at pages) is = absurd is
 adds_none guest past (Copied r page) is = absurd is
 adds_none guest past Switched is = absurd is
 adds_none guest past e is = refl
 
-copies_none : (past : List Event) (e : Event) → IsSilent e → count is_copied (e ∷ past) ≡ count is_copied past
-copies_none past (Start at) is = absurd is
-copies_none past (Synced r at pages) is = absurd is
-copies_none past (Copied r page) is = absurd is
-copies_none past Switched is = absurd is
-copies_none past e is = refl
+-- only a Copied goes on zeros
+follows_none : (guest : Guest) (r page : ℕ) (past : List Event) (e : Event) → IsSilent e → follows_zero guest r page (e ∷ past) ≡ false
+follows_none guest r page past (Copied q last) is = absurd is
+follows_none guest r page past e is = refl
 
 stops_none : (past : List Event) (e : Event) → IsSilent e → stopped (e ∷ past) ≡ stopped past
 stops_none past (Start at) is = absurd is
@@ -43,16 +39,20 @@ stops_none past e is = refl
 -- by one event
 pub quiet_silent : (guest : Guest) (past : List Event) (e : Event) → IsSilent e → IsQuiet guest past (e ∷ past)
 quiet_silent guest past e is = record {
-  stream = ap (λ xs. stream_of guest past ++ xs) (adds_none guest past e is) ∙ append-nil (stream_of guest past);
-  copied = copies_none past e is;
+  parts = adds_none guest past e is;
+  ended = λ was page next zero. follows_none guest (round_of (last_synced (e ∷ past))) page past e is;
   stop = stops_none past e is;
 }
 
 pub quiet_still : (guest : Guest) (past : List Event) → IsQuiet guest past past
-quiet_still guest past = record { stream = refl; copied = refl; stop = refl }
+quiet_still guest past = record { parts = refl; ended = λ was. was; stop = refl }
 
 pub quiet_then : (guest : Guest) (old mid new : List Event) → IsQuiet guest old mid → IsQuiet guest mid new → IsQuiet guest old new
-quiet_then guest old mid new a b = record { stream = b.stream ∙ a.stream; copied = b.copied ∙ a.copied; stop = b.stop ∙ a.stop }
+quiet_then guest old mid new a b = record {
+  parts = b.parts ∙ a.parts;
+  ended = λ was. b.ended (a.ended was);
+  stop = b.stop ∙ a.stop;
+}
 
 -- to what is the same list
 pub quiet_to : (guest : Guest) (old mid new : List Event) → IsQuiet guest old mid → new ≡ mid → IsQuiet guest old new

@@ -1,18 +1,19 @@
 -- What a bench shows and keeps.
-use Rattle.std.specs.Prelude.{◌≡◌, ℕ, ◌≤◌, Bool, true, false, List, take}
+use Rattle.std.specs.Prelude.{◌≡◌, ℕ, ◌≤◌, Bool, true, false, List, take, Some}
 use Rattle.dr_types.specs.declared.guest.Guest.{Guest}
 use Rattle.dr_types.specs.declared.port.Port.TheVariants.{Stream}
 use Rattle.dr_types.specs.Ports.{Ports, put_at, Rose}
 use Rattle.dr_history.specs.declared.event.Event.{Event}
 use Rattle.dr_history.specs.declared.event.Event.TheVariants.{Start, Synced, Copied, Stopped}
 use Rattle.dr_history.specs.declared.event.Event.TheVariants.{Switched}
-use Rattle.dr_history.specs.Lookback.{count}
-use Rattle.dr_history.specs.Kinds.{is_copied}
-use Rattle.dr_history.specs.Stream.{stream_of}
+use Rattle.dr_history.specs.Memory.{zero_page}
+use Rattle.dr_history.specs.Rounds.{last_synced}
+use Rattle.dr_history.specs.Stream.{follows_zero, parts_of, sent_records, stream_of}
 use Rattle.dr_history.specs.Vcpus.{stopped}
 use Rattle.dr_ring.specs.Seats.{KernelView}
 use Rattle.dr_machine.specs.Views as machine
 use Rattle.dr_stream.specs.Sending.{Sending}
+use Rattle.dr_turns.specs.Due.{page_to_copy, round_of}
 
 -- what has happened, the newest event first, the kernel seat of each vCPU, whether the run was
 -- given up, whether a put failed, what the outlet tells of the ports, and its count of faults
@@ -61,9 +62,18 @@ pub record SameStanding (old new : BenchView) : Type 0 where
   pub told : new.told ≡ old.told
   pub faults : new.faults ≡ old.faults
 
--- so many pages were put, and whether the guest is stopped
-pub record IsTracked (past : List Event) (pages : ℕ) (is_stopped : Bool) : Type 0 where
-  pub copied : pages ≡ count is_copied past
+-- the next page to be copied doesn't go on the pages of zeros that were sent last
+abbrev pub HaveZerosEnded : Guest → List Event → Type 0
+HaveZerosEnded guest past =
+    (page : ℕ) → page_to_copy guest past ≡ Some page → zero_page guest page past ≡ true
+    → follows_zero guest (round_of (last_synced past)) page past ≡ false
+
+-- so many records of pages were put, the last of which nothing goes on, and whether the guest is
+-- stopped
+pub record IsTracked (guest : Guest) (past : List Event) (records : ℕ) (is_stopped : Bool)
+    : Type 0 where
+  pub sent : records ≡ sent_records guest past
+  pub ended : HaveZerosEnded guest past
   pub stop : is_stopped ≡ stopped past
 
 -- nothing of the event is on the stream, and it stops nothing
@@ -77,6 +87,6 @@ IsSilent e = Unit {0}
 
 -- what happened since put nothing on the stream and stopped nothing
 pub record IsQuiet (guest : Guest) (old new : List Event) : Type 0 where
-  pub stream : stream_of guest new ≡ stream_of guest old
-  pub copied : count is_copied new ≡ count is_copied old
+  pub parts : parts_of guest new ≡ parts_of guest old
+  pub ended : HaveZerosEnded guest old → HaveZerosEnded guest new
   pub stop : stopped new ≡ stopped old

@@ -4,10 +4,9 @@ ghost use Rattle.dr_types.specs.Pages.{page_count};
 ghost use Rattle.dr_types.specs.Ports.{Rose};
 ghost use Rattle.dr_types.specs.Scripts.{vcpu_count};
 ghost use Rattle.dr_types.specs.Validity.{IsValid};
-ghost use Rattle.dr_history.specs.Kinds.{is_copied};
 ghost use Rattle.dr_history.specs.Legality.{IsLegal};
-ghost use Rattle.dr_history.specs.Lookback.{count};
 ghost use Rattle.dr_history.specs.Memory.{page_bytes};
+ghost use Rattle.dr_history.specs.Stream.{sent_records};
 ghost use Rattle.dr_log_turns.specs.Throttled.{last_throttle};
 ghost use Rattle.dr_machine.specs.Answers.{ExitTurn, FlushTurn, IsNoteOf, OpTurn, ResetTurn};
 ghost use Rattle.dr_machine.specs.Answers.{TellsDeposited};
@@ -72,7 +71,7 @@ impl<N: Name, O: Outlet> Model for Bench<N, O> {
 
     ghost invariant = { λ b.
         BenchKeeps N.guest N.ports N.faults (bench_of b.machine b.sender b.failed)
-        × IsTracked b.machine.past b.sender.pages b.stopped };
+        × IsTracked N.guest b.machine.past b.sender.records b.stopped };
 }
 
 impl<N: Name, O: Outlet> Bench<N, O> {
@@ -224,10 +223,10 @@ impl<N: Name, O: Outlet> Bench<N, O> {
         }
     }
 
-    /// One page more may be put, and the guest's pages have room in their count.
-    #[tactic(auto, using(crate::proofs::Counting::copied_fits))]
+    /// One record of pages more may be put, and the guest's pages have room in their count.
+    #[tactic(auto, using(crate::proofs::Counting::records_fit))]
     fn recall_room(&self)
-        ensures few { count is_copied self.now.past < 2 ^ 32 - 1 }
+        ensures few { sent_records N.guest self.now.past < 2 ^ 32 - 1 }
         ensures pages { page_count N.guest < 2 ^ 32 }
     {
         let _recall_guest = self.machine.guest();

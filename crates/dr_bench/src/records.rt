@@ -1,5 +1,6 @@
 ghost use Rattle.std.specs.Prelude.{◌≡◌, ◌<◌, ◌-◌, ◌^◌, true, if◌then◌else◌};
-ghost use Rattle.dr_bench.specs.Records.{is_stopping, opens_at, record_bytes, pages_after};
+ghost use Rattle.dr_bench.specs.Records.{is_stopping, opens_at, parts_put, records_after};
+ghost use Rattle.dr_history.specs.Parts.{parts_bytes};
 ghost use Rattle.dr_machine.specs.Copies.{CopiesWithin};
 ghost use Rattle.dr_stream.specs.Sending.{Sends};
 
@@ -39,16 +40,18 @@ pub fn put_record<N: Name, O: Outlet>(
     due: Advance,
     opens: bool,
 ) -> PutTurn
-    requires few { sender.old.pages < 2 ^ 32 - 1 }
+    requires few { sender.old.records < 2 ^ 32 - 1 }
     requires within { CopiesWithin N.guest due }
-    ensures { let bytes = record_bytes N.guest machine.now.past due opens sender.old.pages in
-        Sends sender.old bytes result sender.new (pages_after due sender.old.pages) }
+    ensures { let parts = parts_put N.guest machine.now.past due opens sender.old.records in
+        let records = records_after due sender.old.records in
+        Sends sender.old (parts_bytes parts) result sender.new records }
 {
     match due {
         Advance::Started => sender.header(page_count(machine.guest())),
         Advance::Answered { r, pages: _ } if opens => sender.round(r),
         // From the machine's own memory into the record: no page is kept between.
         Advance::Copied { r: _, page } => sender.page(page, machine.page(page)),
+        Advance::Blank { r: _, first, count } => sender.zeros(first, count),
         Advance::Switched => sender.finish(),
         _ => PutTurn::Done,
     }

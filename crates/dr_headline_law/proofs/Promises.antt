@@ -4,10 +4,9 @@ use Rattle.std.specs.List.{list_any}
 use Rattle.dr_types.specs.declared.guest.Guest.{Guest}
 use Rattle.dr_types.specs.Validity.{IsValid}
 use Rattle.dr_history.specs.declared.event.Event.{Event}
-use Rattle.dr_history.specs.Kinds.{is_copied, is_switched}
-use Rattle.dr_history.specs.Lookback.{count}
+use Rattle.dr_history.specs.Kinds.{is_switched}
 use Rattle.dr_history.specs.Legality.{IsLegalSoFar}
-use Rattle.dr_history.specs.Stream.{stream_of}
+use Rattle.dr_history.specs.Stream.{stream_of, sent_records}
 use Rattle.dr_history_law.proofs.Answer.{answers_written}
 use Rattle.dr_history_law.proofs.Copies.{answers_exactly}
 use Rattle.dr_history_law.proofs.Execution.{executes_in_order, executes_its_script}
@@ -49,6 +48,6 @@ headline guest past valid legal switched =
       promises = promises guest past legal;
       stopped = keeps_stopped guest past legal switched;
       same = sym same;
-      loads = subst (λ image. IsStream (stream_of guest past) image (count is_copied past)) (sym same)
+      loads = subst (λ image. IsStream (stream_of guest past) image (sent_records guest past)) (sym same)
           (stream_loads guest past valid legal switched);
     }

@@ -6,13 +6,12 @@ use Rattle.dr_types.specs.Scripts.{vcpu_count}
 use Rattle.dr_types.specs.Validity.{IsValid}
 use Rattle.dr_history.specs.declared.event.Event.{Event}
 use Rattle.dr_history.specs.declared.event.Event.TheVariants.{Reset, Asked, Synced, Stopped}
-use Rattle.dr_history.specs.Lookback.{count}
-use Rattle.dr_history.specs.Kinds.{copies_page, is_copied, is_switched}
+use Rattle.dr_history.specs.Kinds.{copies_page, is_switched}
 use Rattle.dr_history.specs.Legality.{IsLegalSoFar}
 use Rattle.dr_history.specs.Memory.{memory, destination}
 use Rattle.dr_history.specs.Dirty.{dirty_pages}
 use Rattle.dr_history.specs.Rules.{vcpu_of_op, deposits_entry}
-use Rattle.dr_history.specs.Stream.{stream_of}
+use Rattle.dr_history.specs.Stream.{stream_of, sent_records}
 use Rattle.dr_history.specs.Unsent.{writes_to}
 use Rattle.dr_history_law.specs.Answer.{has_page}
 use Rattle.dr_history_law.specs.Execution.{ExecutesInOrder, Performs}
@@ -68,7 +67,7 @@ pub record KeepsHeadline (guest : Guest) (past : List Event) : Type 0 where
   pub promises : KeepsPromises guest past
   pub stopped : KeepsStoppedMemory guest past
   pub same : destination guest past ≡ memory guest past
-  pub loads : IsStream (stream_of guest past) (memory guest past) (count is_copied past)
+  pub loads : IsStream (stream_of guest past) (memory guest past) (sent_records guest past)
 
 -- each legal history keeps the promises, whatever guest it is of and wherever it ends
 abbrev pub LegalKeepsPromises : Type 0

@@ -6,8 +6,8 @@ use Rattle.dr_types.specs.Scripts.{operation}
 use Rattle.dr_history.specs.Entries.{page_of_entry}
 use Rattle.dr_history.specs.Lines.{event_line}
 use Rattle.dr_history.specs.Report.{guest_line, round_line, share_line, vcpu_line}
-use Rattle.dr_history.specs.Memory.{filled}
-use Rattle.dr_history.specs.Stream.{header, round_record, page_record, end_record}
+use Rattle.dr_history.specs.Memory.{filled, is_zero}
+use Rattle.dr_history.specs.Parts.{header, round_record, page_record, zeros_record, end_record}
 use Rattle.dr_history.specs.Rules.{write_follows, names_exist, not_switched, follows_script, reads_memory, op_before_stop, op_not_kicked, op_has_room, op_has_buffer, write_is_cached, opens_protected, fills_writable, pushes_next, exits_with_reason, deposits_pushed, resets_deposited, flush_has_cause, starts_paced, asks_in_turn, answers_covered, answers_dirty, throttles_due, copies_next, stops_when_few, switches_when_copied}
 use Rattle.dr_history.specs.Legality.{IsLegal, first_broken}
 use Rattle.dr_history_law.proofs.First.{none_is_legal}
@@ -31,7 +31,7 @@ unfolding digits line_text guest_line round_line share_line vcpu_line held_guest
 held_report_says = refl
 
 pub stream_is_long : StreamIsLong
-unfolding filled header round_record page_record end_record halting_guest halting_run
+unfolding filled is_zero header round_record page_record zeros_record end_record halting_guest halting_run
 stream_is_long = refl
 
 none_broken : first_broken halting_guest (halting_run 0) ≡ None

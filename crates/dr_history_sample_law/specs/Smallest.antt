@@ -47,9 +47,9 @@ ReportSays =
     report_of halting_guest (halting_run 0)
     ≡ codes "guest pages 1 vcpus 1 ring 8 soft 6\nround 1 dirty 1 copied 1 at 0\n  vcpu 0 entries 0 rate 0 throttle 0\nround 2 dirty 0 copied 0 at 0\n  vcpu 0 entries 0 rate 0 throttle 0\nround 3 dirty 0 copied 0 at 0\n  vcpu 0 entries 0 rate 0 throttle 0\nvcpu 0 ops 1 full 0 kicked 0\nswitched\n"
 
--- a header of 16 bytes, two rounds and an end of 8 each, and a page of 8 and 4,096
+-- a header of 16 bytes, two rounds and an end of 8 each, and a page of zeros of 12
 abbrev pub StreamIsLong : Type 0
-StreamIsLong = length (stream_of halting_guest (halting_run 0)) ≡ 4144
+StreamIsLong = length (stream_of halting_guest (halting_run 0)) ≡ 52
 
 -- the report of the run with throttles
 abbrev pub HeldReportSays : Type 0

@@ -27,7 +27,7 @@ fn is_cut<R: Threads + Wait + Sync>(
 /// A stream has five puts: its header, round 1 and its page, round 3, and its end.
 #[test]
 fn stops_at_failing_puts(rt: HostRuntime) -> Result<(), Fail> {
-    let rows = [(1, 0), (2, 16), (3, 24), (4, 4128), (5, 4136)];
+    let rows = [(1, 0), (2, 16), (3, 24), (4, 36), (5, 44)];
     for (put, stream) in rows {
         assert!(rt; is_cut(&rt, rt.alloc(), put, stream)?, "put {put}");
     }

@@ -18,10 +18,7 @@ fn migrates_the_usual_guest(rt: HostRuntime) -> Result<(), Fail> {
         end.out.bytes(Port::Report) == report.as_bytes(),
         "the report"
     );
-    assert!(rt;
-        end.out.bytes(Port::Stream).len() == 25_215_016,
-        "the stream"
-    );
+    assert!(rt; end.out.bytes(Port::Stream).len() == 16_480, "the stream");
     assert!(rt; holds_counts(end.out.bytes(Port::Image)), "the image");
     Ok(())
 }

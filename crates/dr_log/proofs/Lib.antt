@@ -7,3 +7,4 @@ pub mod Sized
 pub mod Rooms
 pub mod Limits
 pub mod Used
+pub mod Leaving

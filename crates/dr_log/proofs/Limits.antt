@@ -1,21 +1,14 @@
 -- How large the numbers of a guest are.
 use Rattle.std.proofs.Common.{◌≡◌, ℕ, ◌%◌, ◌<◌, ◌≤◌, ◌^◌, true, List, Option, Some, None, is_some, arith}
 use Rattle.std.specs.Prelude.{IfSome}
-use Rattle.std.proofs.lemmas.Bool.{le-leb, false≢true}
+use Rattle.std.proofs.lemmas.Bool.{false≢true}
 use Rattle.dr_types.specs.Pages.{page_count, page_of_address, pages_of_slots}
 use Rattle.dr_types.specs.Validity.{Lies}
-use Rattle.dr_history.specs.Rules.{in_one_page}
 use Rattle.dr_types.specs.declared.guest.Guest.{Guest}
-use Rattle.dr_types.specs.Scripts.{vcpu_count, op_count}
 use Rattle.dr_types.specs.Validity.{IsValid}
 use Rattle.dr_history.specs.declared.event.Event.{Event}
-use Rattle.dr_history.specs.Execution.{ops}
-use Rattle.dr_history.specs.Legality.{IsLegalSoFar}
 use Rattle.dr_history.specs.Memory.{page_bytes, loaded}
 use Rattle.dr_event_law.specs.Operations.{loaded_from, value_at}
-use Rattle.dr_history_law.specs.Length.{script_length}
-use Rattle.dr_history_law.proofs.Length.{stays_in_script}
-use Rattle.dr_history_law.proofs.Limits.{script_in_total}
 
 pub few_pages : (guest : Guest) → IsValid guest → page_count guest < 2 ^ 32
 few_pages guest valid = let few : pages_of_slots guest.slots ≤ 16384 = valid.slots.pages in omega arith

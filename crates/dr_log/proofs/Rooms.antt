@@ -1,9 +1,8 @@
 -- The room of a log is that of its state.
-use Rattle.std.proofs.Common.{◌≡◌, ◌≤◌, ◌<◌, ℕ, zero, suc, List, [], ◌∷◌, true, length, get_or, refl, arith, None, Some}
-use Rattle.std.specs.Prelude.{IfSome}
+use Rattle.std.proofs.Common.{◌≡◌, ◌≤◌, ◌<◌, ℕ, zero, suc, List, [], ◌∷◌, length, get_or, refl, arith}
 use Rattle.dr_types.specs.declared.guest.Guest.{Guest}
 use Rattle.dr_history.specs.declared.event.Event.{Event}
-use Rattle.dr_history.specs.declared.event.Event.TheVariants.{Start, Read, Write, Paint, Local, Halted, Opened, Filled, Pushed, Exited, Deposited, Reset, Flushed, Asked, Synced, Copied, Throttled, Stopped, Switched}
+use Rattle.dr_history.specs.declared.event.Event.TheVariants.{Write, Paint, Opened, Reset, Synced}
 use Rattle.dr_history.specs.Rounds.{answered_pages}
 use Rattle.dr_memory.specs.Stores.{Store}
 use Rattle.dr_state.specs.declared.entry_fields.OpenedEntry.{OpenedEntry}

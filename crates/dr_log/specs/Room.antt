@@ -1,5 +1,5 @@
 -- What can be taken without memory.
-use Rattle.std.specs.Prelude.{◌≡◌, ◌≤◌, ℕ, Bool, true, false, List, map, slice_index_or, None}
+use Rattle.std.specs.Prelude.{◌≡◌, ◌≤◌, ℕ, Bool, true, false, List, map, slice_index_or}
 use Rattle.std.specs.Prelude.{IfSome}
 use Rattle.dr_types.specs.declared.guest.Guest.{Guest}
 use Rattle.dr_types.specs.Pages.{page_of_address}

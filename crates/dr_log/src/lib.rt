@@ -13,5 +13,6 @@ mod round_reads;
 mod rounds;
 mod throttles;
 mod vcpu_reads;
+mod zeros;
 
 pub use log::Log;

@@ -116,8 +116,8 @@ impl Log {
         self.state.make_entry_room(v)
     }
 
-    /// Room for a page that a reset closes, and for nothing else. An `Err` changes neither guest nor
-    /// history.
+    /// Room for a page that a reset closes, and for nothing else. An `Err` changes neither guest
+    /// nor history.
     pub fn make_closing_room(&mut self) -> Result<(), Memory>
         ensures guest { self.new.guest ≡ self.old.guest }
         ensures past { self.new.past ≡ self.old.past }

@@ -8,7 +8,7 @@ ghost use Rattle.dr_history.specs.Rounds.{few_answered, is_next_copy};
 ghost use Rattle.dr_history.specs.Throttles.{throttle_due};
 ghost use Rattle.dr_history.specs.Vcpus.{stopped};
 ghost use Rattle.dr_history_law.specs.Copies.{copies, pages_of};
-ghost use Rattle.dr_turns.specs.Due.{page_to_copy, round_of};
+ghost use Rattle.dr_turns.specs.Due.{page_to_copy, round_of, zeros_to_copy};
 ghost use Rattle.dr_log.specs.Answered.{answered_count};
 
 use crate::log::Log;
@@ -17,6 +17,7 @@ use crate::rounds::{
     round_copied,
 };
 use crate::throttles::throttle_due;
+use crate::zeros::zeros_to_copy;
 
 /// What is told of the migrator's rounds.
 impl Log {
@@ -103,6 +104,13 @@ impl Log {
         ensures { result ≡ page_to_copy self.now.guest self.now.past }
     {
         next_to_copy(&self.guest, &self.state)
+    }
+
+    /// How many pages of zeros are to be copied together, from this page on.
+    pub fn zeros_to_copy(&self, page: u32) -> u64
+        ensures { result ≡ zeros_to_copy self.now.guest self.now.past page }
+    {
+        zeros_to_copy(&self.guest, &self.state, page)
     }
 
     /// The number of the last answer; 0 where there is none.

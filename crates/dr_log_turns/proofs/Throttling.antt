@@ -15,7 +15,8 @@ use Rattle.dr_history.specs.Throttles.{throttle}
 use Rattle.dr_history.specs.Vcpus.{stopped}
 use Rattle.dr_history_law.specs.Room.{unpushed}
 use Rattle.dr_turns.specs.Buffers.{pushed_behind, all_pushed}
-use Rattle.dr_turns.specs.Due.{advanced, throttled_behind}
+use Rattle.dr_history.specs.Rounds.{last_synced}
+use Rattle.dr_turns.specs.Due.{advanced, throttled_behind, copies_from, round_of}
 use Rattle.dr_turns.specs.declared.answers.Advance.{Advance}
 use Rattle.dr_turns.specs.declared.answers.Advance.TheVariants as advance
 use Rattle.dr_turns_law.proofs.Cases.{IsWait, advanced_cases}
@@ -148,6 +149,10 @@ no_answer guest old p quiet same = record {
   taken = λ h. absurd (true≢false (sym h ∙ ap (λ b. b && (nat_le 1 guest.settings.quota && not (stopped p.1))) quiet));
 }
 
+run_throttle : (v r first n : ℕ) (past : List Event) → last_throttle v (copies_from r first n past) ≡ last_throttle v past
+run_throttle v r first zero past = refl
+run_throttle v r first (suc n) past = run_throttle v r first n past
+
 wait_answers_none : (a : Advance) → IsWait a → is_answer a ≡ false
 wait_answers_none (advance.NotPaced v done) is = refl
 wait_answers_none (advance.NotOut v) is = refl
@@ -179,7 +184,8 @@ advance_leaves guest now old =
       waits = λ a is. no_answer guest old (a, old) (wait_answers_none a is) (none_since old);
       starts = λ due. no_answer guest old _ refl (record { each = λ v. refl });
       answers = λ r due. answer_case (nat_le 1 guest.settings.quota && not (stopped old)) guest old r (length (dirty_pages guest old)) now refl;
-      copies = λ page due. no_answer guest old _ refl (record { each = λ v. refl });
+      copies = λ page due alone. no_answer guest old _ refl (record { each = λ v. refl });
+      blanks = λ page n due zeros. no_answer guest old _ refl (record { each = λ v. run_throttle v (round_of (last_synced old)) page (suc n) old });
       asks_last = λ on stop fresh. no_answer guest old _ refl (record { each = λ v. refl });
       switches = λ on stop asked. no_answer guest old _ refl (record { each = λ v. refl });
       stops = λ on runs few. no_answer guest old _ refl (record { each = λ v. refl });

@@ -5,7 +5,7 @@ ghost use Rattle.dr_turns.specs.Between.{AtTurnsEnd};
 ghost use Rattle.dr_turns.specs.Due.{advanced, copied, page_to_copy};
 
 use crate::answering::answer;
-use crate::rounds::{copy, go_on};
+use crate::rounds::{copy_together, go_on};
 use crate::starts::begin;
 use dr_log::Log;
 use dr_turns::Advance;
@@ -13,20 +13,21 @@ use dr_types::Memory;
 use std::alloc::Global;
 
 /// The advance that is due where all that was asked is answered.
-fn copy_or_go_on(log: &mut Log) -> Advance
+fn copy_or_go_on(log: &mut Log) -> Result<Advance, Memory>
     requires end { AtTurnsEnd log.old.guest log.old.past }
     requires started { started log.old.past ≡ true }
     requires answered { unanswered log.old.past ≡ None }
     requires events { 1 ≤ log.old.room.events }
     ensures answer { let guest = log.old.guest in let past = log.old.past in
-        result ≡ (copied guest past (page_to_copy guest past)).0 }
+        IfOk result (λ a. a ≡ (copied guest past (page_to_copy guest past)).0) }
     ensures past { let guest = log.old.guest in let past = log.old.past in
-        log.new.past ≡ (copied guest past (page_to_copy guest past)).1 }
+        OnOk result (log.new.past ≡ (copied guest past (page_to_copy guest past)).1) }
     ensures guest { log.new.guest ≡ log.old.guest }
+    ensures err { OnErr result (log.new.past ≡ log.old.past) }
 {
     match log.page_to_copy() {
-        Some(page) => copy(log, page),
-        None => go_on(log),
+        Some(page) => copy_together(log, page),
+        None => Ok(go_on(log)),
     }
 }
 
@@ -45,7 +46,7 @@ pub fn advance(log: &mut Log, alloc: Global, now: u64) -> Result<Advance, Memory
     if started {
         match asked {
             Some(r) => answer(log, alloc, r, now),
-            None => Ok(copy_or_go_on(log)),
+            None => copy_or_go_on(log),
         }
     } else {
         Ok(begin(log, now))

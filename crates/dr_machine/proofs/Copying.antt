@@ -30,7 +30,8 @@ copy_left guest now past legal =
       waits = λ a is. none_copied guest past a is;
       starts = λ due. record { within = tt; bytes = λ before. refl };
       answers = λ r due. record { within = tt; bytes = λ before. refl };
-      copies = λ page due. record { within = left_within guest past page legal due.next; bytes = λ before. refl };
+      copies = λ page due alone. record { within = left_within guest past page legal due.next; bytes = λ before. refl };
+      blanks = λ page n due zeros. record { within = tt; bytes = λ before. refl };
       asks_last = λ on stop fresh. record { within = tt; bytes = λ before. refl };
       switches = λ on stop asked. record { within = tt; bytes = λ before. refl };
       stops = λ on runs few. record { within = tt; bytes = λ before. refl };

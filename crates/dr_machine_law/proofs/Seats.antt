@@ -1,5 +1,5 @@
 -- What holds of a seat wherever there is one, where there is one for each vCPU.
-use Rattle.std.proofs.Common.{◌≡◌, ℕ, zero, suc, ◌<◌, List, [], ◌∷◌, length, refl, arith}
+use Rattle.std.proofs.Common.{ℕ, zero, suc, ◌<◌, List, [], ◌∷◌, length, refl, arith}
 use Rattle.dr_ring_set.specs.Seated.{IfAt, HasAt}
 
 -- it holds of this vCPU's, which is there

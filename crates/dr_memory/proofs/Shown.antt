@@ -1,10 +1,11 @@
 -- What a store shows when one of its pages changes.
 use Rattle.std.proofs.Common.{◌≡◌, ℕ, zero, suc, ◌+◌, ◌<◌, Bool, true, false, List, [], ◌∷◌, ◌++◌, length, get_or, map, replicate, refl, ap, sym, ◌∙◌, arith, true≢false}
-use Rattle.std.specs.Prelude.{Option, Some, None, is_some}
+use Rattle.std.specs.Prelude.{◌==◌, Option, Some, None, is_some}
 use Rattle.std.proofs.Math.ListN.{set, length-set}
 use Rattle.std.proofs.Math.Seq.{map-set_same}
 use Rattle.std.proofs.lemmas.List.{map-set, get_or-map, get_or-set_same, length-map}
-use Rattle.dr_history.specs.Memory.{filled}
+use Rattle.std.specs.List.{list_all}
+use Rattle.dr_history.specs.Memory.{filled, is_zero}
 use Rattle.dr_memory.specs.Stores.{Store, held_bytes, shown, has_room, bytes_of, with_bytes, with_room}
 
 abbrev store : List (List ℕ) → List Bool → Store
@@ -51,6 +52,22 @@ owned pages page old d s view lt is =
 pub roomless : (pages : List (Option (List ℕ))) (page : ℕ) (d : Option (List ℕ)) (s : Store) →
     shown pages ≡ s → page < length s.pages → has_room page s ≡ true → get_or pages page d ≡ None → ⊥
 roomless pages page d s view lt room is = true≢false (sym room ∙ flagged pages page d s view lt ∙ ap is_some is)
+
+all_zero : (n : ℕ) → list_all (λ byte. byte == 0) (replicate n 0) ≡ true
+all_zero zero = refl
+all_zero (suc n) = all_zero n
+
+zeros_are_zero : is_zero (filled 0) ≡ true
+unfolding is_zero filled
+zeros_are_zero = all_zero 4096
+
+-- a page without memory of its own is zero
+pub bare_zero : (pages : List (Option (List ℕ))) (page : ℕ) (d : Option (List ℕ)) (s : Store) →
+    shown pages ≡ s → page < length s.pages → get_or pages page d ≡ None → true ≡ is_zero (bytes_of page s)
+bare_zero pages page d s view lt is =
+    let bytes : bytes_of page s ≡ filled 0 =
+    sym (ap (bytes_of page) view) ∙ get_or-map held_bytes pages page d [] (within pages page s view lt) ∙ ap held_bytes is in
+    sym (ap is_zero bytes ∙ zeros_are_zero)
 
 none_of : (own : Option (List ℕ)) → is_some own ≡ false → own ≡ None
 none_of None h = refl

@@ -2,7 +2,7 @@
 
 ghost use Rattle.std.specs.Prelude.{◌≡◌, ◌+◌, ◌≤◌, length, take, IfOk};
 ghost use Rattle.std.specs.Int.{w64, to_le_bytes};
-ghost use Rattle.dr_history.specs.Memory.{filled, overwritten};
+ghost use Rattle.dr_history.specs.Memory.{filled, is_zero, overwritten};
 
 use crate::page_bytes;
 use dr_types::Memory;
@@ -45,6 +45,14 @@ impl OwnPage {
         ensures len { length result.now ≡ 4096 }
     {
         self.bytes.as_slice()
+    }
+
+    /// Each byte is 0. The search ends at the first that isn't.
+    #[tactic(auto, unfolding(dr_history::specs::Memory::is_zero))]
+    pub fn is_zero(&self) -> bool
+        ensures { result ≡ is_zero self.now }
+    {
+        self.bytes.as_slice().iter().all(|byte| *byte == 0)
     }
 
     /// Stores the low bytes of a value, the least first.

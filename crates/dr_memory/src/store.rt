@@ -1,7 +1,7 @@
 ghost use Rattle.std.specs.Prelude.{◌≡◌, ◌+◌, ◌<◌, ◌≤◌, true, false, length, take, replicate, Some};
 ghost use Rattle.std.specs.Prelude.{IfOk, OnOk, OnErr};
 ghost use Rattle.std.specs.Int.{w64, to_le_bytes};
-ghost use Rattle.dr_history.specs.Memory.{filled, overwritten, loaded};
+ghost use Rattle.dr_history.specs.Memory.{filled, is_zero, overwritten, loaded};
 ghost use Rattle.dr_memory.specs.Stores.{has_room, bytes_of, with_bytes, with_room, held_bytes};
 
 use crate::own_page::OwnPage;
@@ -70,6 +70,18 @@ impl PageStore {
         match &self.pages[page as usize] {
             Some(bytes) => bytes.as_slice(),
             None => self.zeros.as_slice(),
+        }
+    }
+
+    /// Each byte of a page is 0. A page without memory of its own isn't looked at.
+    #[tactic(auto, using(crate::proofs::Shown::bare_zero))]
+    pub fn is_zero(&self, page: u32) -> bool
+        requires { page < length self.now.pages }
+        ensures { result ≡ is_zero (bytes_of page self.now) }
+    {
+        match &self.pages[page as usize] {
+            Some(bytes) => bytes.is_zero(),
+            None => true,
         }
     }
 

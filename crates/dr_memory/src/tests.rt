@@ -34,3 +34,19 @@ fn a_fork_has_the_same_pages(rt: HostRuntime) -> Result<(), Fail> {
     assert_eq!(rt; fork.has_room(1), false);
     Ok(())
 }
+
+#[test]
+fn a_page_is_zero_while_each_byte_is(rt: HostRuntime) -> Result<(), Fail> {
+    let mut store = PageStore::new(rt.alloc(), 2)?;
+    assert_eq!(rt; store.is_zero(1), true);
+    store.make_room(1)?;
+    assert_eq!(rt; store.is_zero(1), true);
+    store.write(1, 4095, 1, 1);
+    assert_eq!(rt; store.is_zero(1), false);
+    store.write(1, 4095, 1, 0);
+    assert_eq!(rt; store.is_zero(1), true);
+    store.paint(1, 0x80);
+    assert_eq!(rt; store.is_zero(1), false);
+    assert_eq!(rt; store.is_zero(0), true);
+    Ok(())
+}

@@ -69,6 +69,11 @@ fn wait<N: Name, O: Outlet, C: Clock>(
         Advance::Started
         | Advance::Answered { r: _, pages: _ }
         | Advance::Copied { r: _, page: _ }
+        | Advance::Blank {
+            r: _,
+            first: _,
+            count: _,
+        }
         | Advance::Asked { r: _ }
         | Advance::Stopping
         | Advance::Switched => unreachable!(),

@@ -145,6 +145,11 @@ pub fn appends(due: Advance) -> bool
         Advance::Started
         | Advance::Answered { r: _, pages: _ }
         | Advance::Copied { r: _, page: _ }
+        | Advance::Blank {
+            r: _,
+            first: _,
+            count: _,
+        }
         | Advance::Asked { r: _ }
         | Advance::Stopping
         | Advance::Switched => true,

@@ -70,8 +70,11 @@ fn a_round_waits_for_each_part(rt: HostRuntime) -> Result<(), Fail> {
         Call::Advance(Advance::NotOut { v: 0 }),
         Call::Exit(0, Some(Why::Kicked)),
         Call::Advance(Advance::Answered { r: 1, pages: 2 }),
-        Call::Advance(Advance::Copied { r: 1, page: 0 }),
-        Call::Advance(Advance::Copied { r: 1, page: 1 }),
+        Call::Advance(Advance::Blank {
+            r: 1,
+            first: 0,
+            count: 2,
+        }),
         Call::Op(0, PLAIN),
         Call::Advance(Advance::Asked { r: 2 }),
         Call::Advance(Advance::NotOut { v: 0 }),
@@ -90,8 +93,8 @@ fn a_round_waits_for_each_part(rt: HostRuntime) -> Result<(), Fail> {
         calls: CALLS,
         settles: false,
         lines: "ask 2\np 0 0\nx 0 kicked\nd 0 0 1\nz 0 0\nflush\nsync 2 7 1 0\n",
-        put: 8240,
-        first: b"DRSTREAM\x01\x00\x00\x00\x02\x00\x00\x00\x01\x00\x00\x00\x01\x00\x00\x00\x02\x00\x00\x00\x00\x00\x00\x00",
+        put: 44,
+        first: b"DRSTREAM\x02\x00\x00\x00\x02\x00\x00\x00\x01\x00\x00\x00\x01\x00\x00\x00\x04\x00\x00\x00\x00\x00\x00\x00\x02\x00\x00\x00",
     };
     assert!(rt; holds(rt.alloc(), TWO_PAGES, 99, ROW)?);
     Ok(())
@@ -116,7 +119,7 @@ fn a_failed_put_ends_the_run(rt: HostRuntime) -> Result<(), Fail> {
         settles: false,
         lines: "ask 1\nx 0 kicked\nsync 1 7 2 0 1\n",
         put: 16,
-        first: b"DRSTREAM\x01\x00\x00\x00\x02\x00\x00\x00",
+        first: b"DRSTREAM\x02\x00\x00\x00\x02\x00\x00\x00",
     };
     assert!(rt; holds(rt.alloc(), TWO_PAGES, 2, ROW)?);
     Ok(())
@@ -238,8 +241,11 @@ switched
         Call::Exit(0, Some(Why::Kicked)),
         Call::Exit(1, Some(Why::Kicked)),
         Call::Advance(Advance::Answered { r: 1, pages: 2 }),
-        Call::Advance(Advance::Copied { r: 1, page: 0 }),
-        Call::Advance(Advance::Copied { r: 1, page: 1 }),
+        Call::Advance(Advance::Blank {
+            r: 1,
+            first: 0,
+            count: 2,
+        }),
         Call::Op(0, PLAIN),
         Call::ReapAll,
         Call::Stands(BEFORE),
@@ -251,8 +257,8 @@ switched
         calls: CALLS,
         settles: false,
         lines: "switched\n",
-        put: 16464,
-        first: b"DRSTREAM\x01\x00\x00\x00\x02\x00\x00\x00\x01\x00\x00\x00\x01\x00\x00\x00\x02\x00\x00\x00\x00\x00\x00\x00",
+        put: 8268,
+        first: b"DRSTREAM\x02\x00\x00\x00\x02\x00\x00\x00\x01\x00\x00\x00\x01\x00\x00\x00\x04\x00\x00\x00\x00\x00\x00\x00\x02\x00\x00\x00",
     };
     assert!(rt; holds(rt.alloc(), TWO_VCPUS, 99, ROW)?);
     Ok(())

@@ -25,12 +25,12 @@ fn stops_at_failing_puts(rt: HostRuntime) -> Result<(), Fail> {
         (1, Status::Outlet, [0, 0, 0, 0]),
         (2, Status::Outlet, [16, 0, 0, 0]),
         (3, Status::Outlet, [24, 0, 0, 0]),
-        (4, Status::Outlet, [4128, 0, 0, 0]),
-        (5, Status::Outlet, [4136, 0, 0, 0]),
-        (6, Status::Outlet, [4144, 0, 0, 0]),
-        (7, Status::Outlet, [4144, 4096, 0, 0]),
-        (8, Status::Outlet, [4144, 4096, report, 0]),
-        (9, Status::Done, [4144, 4096, report, journal]),
+        (4, Status::Outlet, [36, 0, 0, 0]),
+        (5, Status::Outlet, [44, 0, 0, 0]),
+        (6, Status::Outlet, [52, 0, 0, 0]),
+        (7, Status::Outlet, [52, 4096, 0, 0]),
+        (8, Status::Outlet, [52, 4096, report, 0]),
+        (9, Status::Done, [52, 4096, report, journal]),
     ];
     for (put, status, long) in rows {
         let is_cut = is_cut(alloc, put, status, long)?;

@@ -7,3 +7,5 @@ mod live_rows;
 mod small_rows;
 #[cfg(test)]
 mod usual_rows;
+#[cfg(test)]
+mod zero_rows;

@@ -178,7 +178,7 @@ fn is_unfinished(alloc: Global, out: &PortBook) -> Result<bool, AllocError> {
     let report = String::from_utf8_lossy(alloc, out.bytes(Port::Report))?;
     let told = journal.ends_with("sync 1 0 1 0\ncopy 1 0\nend\n")
         && report.ends_with("\nunfinished\n");
-    Ok(told && out.bytes(Port::Stream).len() == 4128 && out.bytes(Port::Image).is_empty())
+    Ok(told && out.bytes(Port::Stream).len() == 36 && out.bytes(Port::Image).is_empty())
 }
 
 #[test]

@@ -13,11 +13,22 @@ fn page(last: u8) -> [u8; 4096] {
     page
 }
 
+/// The record of the page, which ends with this byte and has zeros before it.
+fn record_of(alloc: Global, last: u8) -> Result<Vec<u8>, AllocError> {
+    if last == 0 {
+        return b"\x04\0\0\0\0\0\0\0\x01\0\0\0".to_vec(alloc);
+    }
+    let mut record = b"\x02\0\0\0\0\0\0\0".to_vec(alloc)?;
+    record.extend_from_slice(&page(last))?;
+    Ok(record)
+}
+
 /// The stream of a guest of one page that is copied once, in the first of three rounds.
-fn stream_of(alloc: Global, page: &[u8]) -> Result<Vec<u8>, AllocError> {
-    let mut stream = b"DRSTREAM\x01\0\0\0\x01\0\0\0".to_vec(alloc)?;
-    stream.extend_from_slice(b"\x01\0\0\0\x01\0\0\0\x02\0\0\0\0\0\0\0")?;
-    stream.extend_from_slice(page)?;
+fn stream_of(alloc: Global, last: u8) -> Result<Vec<u8>, AllocError> {
+    let mut stream = b"DRSTREAM\x02\0\0\0\x01\0\0\0".to_vec(alloc)?;
+    stream.extend_from_slice(b"\x01\0\0\0\x01\0\0\0")?;
+    let record = record_of(alloc, last)?;
+    stream.extend_from_slice(record.as_slice())?;
     stream.extend_from_slice(b"\x01\0\0\0\x03\0\0\0\x03\0\0\0\x01\0\0\0")?;
     Ok(stream)
 }
@@ -50,7 +61,7 @@ const HALT: Row = Row {
 /// The four ports hold what a row's run leaves, whose guest file this is.
 fn leaves(alloc: Global, row: &Row, file: &str, out: &PortBook) -> Result<bool, AllocError> {
     let page = page(row.last);
-    let stream = stream_of(alloc, &page)?;
+    let stream = stream_of(alloc, row.last)?;
     let report = report_of(alloc, row.now, row.executed)?;
     let journal = journal_of(alloc, file, row.events, row.now)?;
     Ok(

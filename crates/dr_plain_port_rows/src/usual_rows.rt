@@ -20,11 +20,11 @@ fn has_events(alloc: Global, file: &str, out: &PortBook) -> Result<bool, AllocEr
     Ok(journal.starts_with(file.as_bytes()) && event_lines(alloc, journal)? == 18_161)
 }
 
-/// The ports hold this report, a stream of the header, the rounds 1 and 3, each page once and the
-/// end, and the image.
+/// The ports hold this report, the image, and a stream of the header, the rounds 1 and 3, the four
+/// pages that count, the zeros in two runs, and the end.
 fn is_usual(out: &PortBook, report: &[u8]) -> bool {
     out.bytes(Port::Report) == report
-        && out.bytes(Port::Stream).len() == 25_215_016
+        && out.bytes(Port::Stream).len() == 16 + 8 + 4 * 4104 + 2 * 12 + 8 + 8
         && holds_counts(out.bytes(Port::Image))
 }
 

@@ -7,10 +7,11 @@ use Rattle.dr_types.specs.Scripts.{vcpu_count}
 use Rattle.dr_history.specs.declared.event.Event.{Event}
 use Rattle.dr_history.specs.declared.event.Event.TheVariants.{Synced}
 use Rattle.dr_history.specs.Dirty.{dirty_pages}
+use Rattle.dr_history.specs.Rounds.{last_synced}
 use Rattle.dr_history.specs.Vcpus.{stopped}
 use Rattle.dr_turns.specs.declared.answers.Advance.{Advance}
 use Rattle.dr_turns.specs.declared.answers.Advance.TheVariants as advance
-use Rattle.dr_turns.specs.Due.{advanced, throttled_behind, answered_behind}
+use Rattle.dr_turns.specs.Due.{advanced, throttled_behind, answered_behind, copies_from, round_of}
 use Rattle.dr_turns_law.proofs.Cases.{IsWait, advanced_cases}
 use Rattle.dr_schedule_law.specs.Schedule.{appends}
 use Rattle.dr_schedule_law.proofs.Reaping.{by_test}
@@ -39,6 +40,10 @@ answered_longer guest r now past =
     (let longer = throttled_longer guest (vcpu_count guest)
     (Synced r now (dirty_pages guest past) ∷ past) in omega (arith, longer)) (omega arith)
 
+run_longer : (r first n : ℕ) (past : List Event) → length past < length (copies_from r first (suc n) past)
+run_longer r first zero past = omega arith
+run_longer r first (suc n) past = let before = run_longer r first n past in omega (arith, before)
+
 -- what an advance appends
 record AdvanceAppends (past : List Event) (a : Advance) (new : List Event) : Type 0 where
   pub more : appends a ≡ true → length past < length new
@@ -55,7 +60,11 @@ advance_appends guest now past =
       waits = λ a is. waits_here past a is;
       starts = λ due. record { more = λ h. omega arith; none = λ h. cc };
       answers = λ r due. record { more = λ h. answered_longer guest r now past; none = λ h. cc };
-      copies = λ page due. record { more = λ h. omega arith; none = λ h. cc };
+      copies = λ page due alone. record { more = λ h. omega arith; none = λ h. cc };
+      blanks = λ page n due zeros. record {
+        more = λ h. run_longer (round_of (last_synced past)) page n past;
+        none = λ h. cc;
+      };
       asks_last = λ on stop fresh. record { more = λ h. omega arith; none = λ h. cc };
       switches = λ on stop asked. record { more = λ h. omega arith; none = λ h. cc };
       stops = λ on runs few. record { more = λ h. omega arith; none = λ h. cc };

@@ -22,6 +22,7 @@ due_none : (guest : Guest) (past : List Event) (a : Advance) (new : List Event) 
 due_none guest past advance.Started new h = refl
 due_none guest past (advance.Answered r pages) new h = refl
 due_none guest past (advance.Copied r page) new h = refl
+due_none guest past (advance.Blank r first pages) new h = refl
 due_none guest past (advance.Asked r) new h = refl
 due_none guest past advance.Stopping new h = refl
 due_none guest past advance.Switched new h = refl

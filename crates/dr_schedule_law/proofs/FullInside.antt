@@ -16,15 +16,16 @@ use Rattle.dr_history.specs.Execution.{ops}
 use Rattle.dr_history.specs.Kinds.{is_asked, is_halted_of}
 use Rattle.dr_history.specs.Legality.{IsLegalSoFar}
 use Rattle.dr_history.specs.Lookback.{before}
-use Rattle.dr_history.specs.Rounds.{asks, unanswered}
+use Rattle.dr_history.specs.Rounds.{asks, unanswered, last_synced}
 use Rattle.dr_history.specs.Vcpus.{halted, stopped, in_guest, kicked, is_full}
 use Rattle.dr_history_law.specs.Room.{unpushed}
 use Rattle.dr_history_law.proofs.Outstanding.{pushed_opened}
 use Rattle.dr_turns_law.proofs.Cases.{AnswerDue, IsWait, advanced_cases}
+use Rattle.dr_turns_law.proofs.Together.{run_on}
 use Rattle.dr_turns_law.proofs.Found.{first_none}
 use Rattle.dr_turns.specs.declared.answers.Advance.{Advance}
 use Rattle.dr_turns.specs.declared.answers.Advance.TheVariants as advance
-use Rattle.dr_turns.specs.Due.{advanced, throttled_behind, answered_behind}
+use Rattle.dr_turns.specs.Due.{advanced, throttled_behind, answered_behind, round_of}
 use Rattle.dr_turns.specs.Firsts.{first_unreset}
 use Rattle.dr_turns.specs.Buffers.{all_pushed}
 use Rattle.dr_turns.specs.Turns.{op_behind, executed, after_op, after_exit}
@@ -312,7 +313,10 @@ due_keeps guest now starts past valid legal step it =
       waits = λ a is. wait_keeps guest starts past a valid legal step it is;
       starts = λ due awaits. record { inside = it.inside; still = it.still };
       answers = λ r due awaits. answer_keeps guest past r now valid legal due it;
-      copies = λ page due awaits. record { inside = it.inside; still = it.still };
+      copies = λ page due alone awaits. record { inside = it.inside; still = it.still };
+      blanks = λ page n due zeros awaits.
+          run_on (AreFullInside guest) (round_of (last_synced past)) page (suc n) past it
+          (λ q xs so. record { inside = so.inside; still = so.still });
       asks_last = λ on stop fresh awaits. ask_keeps guest past (asks past + 1);
       switches = λ on stop asked awaits. record { inside = it.inside; still = it.still };
       stops = λ on runs few awaits. record { inside = it.inside; still = it.still };

@@ -8,6 +8,7 @@ use Rattle.dr_history.specs.declared.event.Event.TheVariants.{Read, Write, Paint
 use Rattle.dr_history.specs.Dirty.{dirty_pages}
 use Rattle.dr_history.specs.Entries.{opens}
 use Rattle.dr_history.specs.Execution.{ops}
+use Rattle.dr_history.specs.Rounds.{last_synced}
 use Rattle.dr_history.specs.Rules.{vcpu_of_op}
 use Rattle.dr_history.specs.Times.{times}
 use Rattle.dr_history.specs.Vcpus.{stopped, in_guest, is_full}
@@ -17,7 +18,7 @@ use Rattle.dr_turns_law.proofs.Executing.{by_executed}
 use Rattle.dr_turns.specs.declared.answers.Advance.{Advance}
 use Rattle.dr_turns.specs.declared.answers.Advance.TheVariants as advance
 use Rattle.dr_turns.specs.Buffers.{pushed_behind, all_pushed}
-use Rattle.dr_turns.specs.Due.{advanced, throttled_behind, answered_behind}
+use Rattle.dr_turns.specs.Due.{advanced, throttled_behind, answered_behind, copies_from, round_of}
 use Rattle.dr_turns.specs.Turns.{executed, after_op, after_exit}
 use Rattle.dr_schedule_law.specs.Reaps.{IsReap, reaped}
 use Rattle.dr_schedule_law.specs.Schedule.{Point, point, Call, exited, call_after_op, vcpu_block, due_block, reaps_after_full, block, next_block}
@@ -85,6 +86,10 @@ answered_times guest r now past =
     (Synced r now (dirty_pages guest past) ∷ past)
     (throttled_untimed guest (vcpu_count guest) (Synced r now (dirty_pages guest past) ∷ past)) refl
 
+run_untimed : (r first n : ℕ) (past : List Event) → times (copies_from r first n past) ≡ times past
+run_untimed r first zero past = refl
+run_untimed r first (suc n) past = run_untimed r first n past
+
 -- an advance names its own time at most
 pub advance_times : (guest : Guest) (now : ℕ) (past : List Event)
     → MayAddTime now past (advanced guest now past).1
@@ -93,7 +98,8 @@ advance_times guest now past =
       waits = λ a is. inl refl;
       starts = λ due. inr refl;
       answers = λ r due. inr (answered_times guest r now past);
-      copies = λ page due. inl refl;
+      copies = λ page due alone. inl refl;
+      blanks = λ page n due zeros. inl (run_untimed (round_of (last_synced past)) page (suc n) past);
       asks_last = λ on stop fresh. inl refl;
       switches = λ on stop asked. inl refl;
       stops = λ on runs few. inl refl;

@@ -1,5 +1,5 @@
 -- What holds where the advance waits, by what it answers.
-use Rattle.std.proofs.Common.{◌≡◌, ℕ, Bool, true, false, cond, List, ◌∷◌, Option, Some, None, is_some, refl, ap, length}
+use Rattle.std.proofs.Common.{◌≡◌, ℕ, zero, suc, Bool, true, false, cond, List, ◌∷◌, Option, Some, None, is_some, refl, ap, length}
 use Rattle.std.specs.Prelude.{◌==◌, not, nat_lt, nat_le}
 use Rattle.std.specs.List.{list_any}
 use Rattle.std.proofs.lemmas.Bool.{or_parts, not-true, both_ways, false_from_ne_true}
@@ -18,7 +18,7 @@ use Rattle.dr_history_law.proofs.Switch.{unanswered_started}
 use Rattle.dr_event_law.proofs.Rounds.{stopped_started}
 use Rattle.dr_turns.specs.declared.answers.Advance.{Advance}
 use Rattle.dr_turns.specs.declared.answers.Advance.TheVariants as advance
-use Rattle.dr_turns.specs.Due.{advanced, begun, some_closing, answered_behind, reset_answer, answered, page_to_copy, asked, asked_where_paced, next_round, after_stop, after_copies, copied, answered_or_copied}
+use Rattle.dr_turns.specs.Due.{advanced, begun, some_closing, answered_behind, reset_answer, answered, page_to_copy, zeros_to_copy, copied_together, round_of, asked, asked_where_paced, next_round, after_stop, after_copies, copied, answered_or_copied}
 use Rattle.dr_turns.specs.Firsts.{first_unpaced, first_kicked, first_unreset}
 use Rattle.dr_turns_law.proofs.Found.{first_some}
 use Rattle.dr_schedule_law.specs.Waiting.{AwaitsOp, Awaits}
@@ -121,10 +121,16 @@ copies_waits guest past legal answered =
     refl))
     (λ spent. tt))))
 
+together_waits : (guest : Guest) (r page n : ℕ) (past new : List Event)
+    → Awaits guest past (copied_together r page n new).0
+together_waits guest r page zero past new = tt
+together_waits guest r page (suc n) past new = tt
+
 copied_waits : (guest : Guest) (past : List Event) (o : Option ℕ) → IsLegalSoFar guest past
     → unanswered past ≡ None → Awaits guest past (copied guest past o).0
 copied_waits guest past None legal answered = copies_waits guest past legal answered
-copied_waits guest past (Some page) legal answered = tt
+copied_waits guest past (Some page) legal answered =
+    together_waits guest (round_of (last_synced past)) page (zeros_to_copy guest past page) past past
 
 round_waits : (guest : Guest) (now : ℕ) (past : List Event) (o : Option ℕ) → IsLegalSoFar guest past
     → unanswered past ≡ o → Awaits guest past (answered_or_copied guest now past o).0

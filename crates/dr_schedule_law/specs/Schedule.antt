@@ -50,6 +50,7 @@ abbrev pub appends : Advance → Bool
 appends advance.Started = true
 appends (advance.Answered r pages) = true
 appends (advance.Copied r page) = true
+appends (advance.Blank r first pages) = true
 appends (advance.Asked r) = true
 appends advance.Stopping = true
 appends advance.Switched = true

@@ -4,7 +4,7 @@ ghost use Rattle.dr_types.specs.declared.guest.Guest.{Guest};
 ghost use Rattle.dr_types.specs.Pages.{page_count};
 ghost use Rattle.dr_history.specs.declared.event.Event.{Event};
 ghost use Rattle.dr_history.specs.Legality.{broken};
-ghost use Rattle.dr_history.specs.Memory.{page_bytes, loaded};
+ghost use Rattle.dr_history.specs.Memory.{page_bytes, loaded, zero_page};
 ghost use Rattle.dr_history.specs.Rounds.{answered_pages};
 ghost use Rattle.dr_memory.specs.Stores.{has_room, with_room};
 ghost use Rattle.dr_state.specs.Opened.{OpeningFits, HasRoomAt};
@@ -53,6 +53,16 @@ impl State {
             → result.now ≡ page_bytes guest page past }
     {
         self.memory.page(page)
+    }
+
+    /// A page is zero. One without memory of its own isn't looked at.
+    #[tactic(auto, using(crate::proofs::Stored::shows_zero))]
+    pub fn is_zero(&self, page: u32) -> bool
+        requires { page < length self.now.memory.pages }
+        ensures { (guest : Guest) (past : List Event) → IsStateOf guest past self.now
+            → result ≡ zero_page guest page past }
+    {
+        self.memory.is_zero(page)
     }
 
     /// Copies the bytes of a page.

@@ -7,12 +7,12 @@ use Rattle.dr_io.specs.Puts.{Puts}
 use Rattle.dr_stream.specs.Sending.{Sending, Sends}
 
 abbrev pub sending : Ports → ℕ → ℕ → Sending
-sending told faults pages = record { told = told; faults = faults; pages = pages }
+sending told faults records = record { told = told; faults = faults; records = records }
 
-pub sent : (step : ℕ → ℕ) (was told : Ports) (before now pages : ℕ) (old : Sending) (bytes put : List ℕ) (result : PutTurn)
-    → sending was before pages ≡ old → put ≡ bytes → Puts was before Stream put result told now
-    → Sends old bytes result (sending told now (step pages)) (step old.pages)
-sent step was told before now pages old bytes put result is same puts =
-    let here : Sends (sending was before pages) bytes result (sending told now (step pages)) (step pages) =
+pub sent : (step : ℕ → ℕ) (was told : Ports) (before now records : ℕ) (old : Sending) (bytes put : List ℕ) (result : PutTurn)
+    → sending was before records ≡ old → put ≡ bytes → Puts was before Stream put result told now
+    → Sends old bytes result (sending told now (step records)) (step old.records)
+sent step was told before now records old bytes put result is same puts =
+    let here : Sends (sending was before records) bytes result (sending told now (step records)) (step records) =
     record { puts = subst (λ xs. Puts was before Stream xs result told now) same puts; counted = refl } in
-    subst (λ start. Sends start bytes result (sending told now (step pages)) (step start.pages)) is here
+    subst (λ start. Sends start bytes result (sending told now (step records)) (step start.records)) is here

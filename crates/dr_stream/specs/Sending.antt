@@ -5,14 +5,15 @@ use Rattle.dr_types.specs.Ports.{Ports}
 use Rattle.dr_io.specs.declared.outlet.PutTurn.{PutTurn}
 use Rattle.dr_io.specs.Puts.{Puts}
 
--- what its outlet tells of the ports, the outlet's count of faults, and how many pages were put
+-- what its outlet tells of the ports, the outlet's count of faults, and how many records of pages
+-- were put
 pub record Sending : Type 0 where
   pub told : Ports
   pub faults : ℕ
-  pub pages : ℕ
+  pub records : ℕ
 
--- a put of these bytes on the stream, after which so many pages were put
-pub record Sends (old : Sending) (bytes : List ℕ) (result : PutTurn) (new : Sending) (pages : ℕ)
+-- a put of these bytes on the stream, after which so many records of pages were put
+pub record Sends (old : Sending) (bytes : List ℕ) (result : PutTurn) (new : Sending) (records : ℕ)
     : Type 0 where
   pub puts : Puts old.told old.faults Stream bytes result new.told new.faults
-  pub counted : new.pages ≡ pages
+  pub counted : new.records ≡ records

@@ -1,14 +1,30 @@
--- The parts of a stream are read off its bytes in one way only.
-use Rattle.std.proofs.Common.{◌≡◌, ℕ, ◌<◌, ◌≤◌, List, [], ◌∷◌, ◌++◌, length, reverse, take, drop, get_or, refl, ap, sym, ◌∙◌, subst, arith, append_assoc, append-nil}
-use Rattle.std.specs.Prelude.{◌^◌}
+-- Bytes are read as a header, records and a rest in one way only.
+use Rattle.std.proofs.Common.{◌≡◌, ℕ, ◌^◌, ◌<◌, ◌≤◌, List, [], ◌∷◌, ◌++◌, length, take, drop, reverse, get_or, refl, ap, sym, subst, ◌∙◌, arith, append_assoc, append-nil}
 use Rattle.std.specs.Int.{w32, from_le_bytes}
 use Rattle.std.proofs.lemmas.Nat.{from_le_bytes-to_le_bytes_4}
 use Rattle.std.proofs.lemmas.List.{reverse-reverse}
 use Rattle.std.proofs.lemmas.Grind.{reverse_onto}
 use Rattle.dr_history.specs.Lookback.{count}
-use Rattle.dr_history.specs.Stream.{word, header, round_record, page_record, end_record}
-use Rattle.dr_stream_law.specs.Parts.{Part, Round, Page, part_bytes, parts_bytes, is_page, AreParts}
+use Rattle.dr_history.specs.Parts.{Part, Header, Round, Page, Zeros, End, word, header, round_record, page_record, zeros_record, end_record, part_bytes, parts_bytes, has_pages}
+use Rattle.dr_stream_law.specs.Grammar.{MayStand, AreParts, Begins}
 use Rattle.dr_stream_law.specs.Loading.{loaded_image, LoadsOnce}
+use Rattle.dr_stream_law.proofs.Records.{Fits, stands_fits}
+
+-- the rest begins with no record that may stand there
+abbrev pub Stuck : ℕ → ℕ → List Part → List ℕ → Type 0
+Stuck version pages parts rest = (part : Part) (tail : List ℕ) → MayStand version pages part parts → rest ≡ part_bytes part ++ tail → ⊥
+
+first_cell : (xs ys : List ℕ) → xs ≡ ys → get_or xs 0 0 ≡ get_or ys 0 0
+first_cell xs ys h = ap (λ zs. get_or zs 0 0) h
+
+-- an end is no record that may stand there
+pub end_stuck : (version pages n : ℕ) (parts : List Part) → Stuck version pages parts (end_record n)
+unfolding round_record page_record zeros_record end_record
+end_stuck version pages n parts (Header v m) tail may is = may
+end_stuck version pages n parts (Round r) tail may is = let k : 3 ≡ 1 = first_cell (end_record n) (part_bytes (Round r) ++ tail) is in absurd (omega (arith, k))
+end_stuck version pages n parts (Page page bytes) tail may is = let k : 3 ≡ 2 = first_cell (end_record n) (part_bytes (Page page bytes) ++ tail) is in absurd (omega (arith, k))
+end_stuck version pages n parts (Zeros first m) tail may is = let k : 3 ≡ 4 = first_cell (end_record n) (part_bytes (Zeros first m) ++ tail) is in absurd (omega (arith, k))
+end_stuck version pages n parts (End m) tail may is = may
 
 -- a word gives its number, and what follows it
 first_word : (n m : ℕ) (xs ys : List ℕ) → n < 2 ^ 32 → m < 2 ^ 32 → word n ++ xs ≡ word m ++ ys → (n ≡ m) × (xs ≡ ys)
@@ -28,11 +44,68 @@ first_bytes (a ∷ olds) (b ∷ news) xs ys l h =
     let body : olds ≡ news = rest.0 in
     (cc, rest.1)
 
--- the bytes of parts that are given with the first one first
+-- a record gives itself, and what follows it
+first_part : (p q : Part) (xs ys : List ℕ) → Fits p → Fits q → part_bytes p ++ xs ≡ part_bytes q ++ ys → (p ≡ q) × (xs ≡ ys)
+unfolding round_record page_record zeros_record
+first_part (Header v n) q xs ys f g h = absurd f
+first_part (End n) q xs ys f g h = absurd f
+first_part (Round r) (Round s) xs ys f g h =
+    let both = first_word r s xs ys f g (ap (drop 4) h) in (ap Round both.0, both.1)
+first_part (Page p bytes) (Page q others) xs ys f g h =
+    let both = first_word p q (bytes ++ xs) (others ++ ys) f.0 g.0 (ap (drop 4) h) in
+    let rest = first_bytes bytes others xs ys (f.1 ∙ sym g.1) both.1 in
+    let head : p ≡ q = both.0 in
+    let body : bytes ≡ others = rest.0 in
+    (cc, rest.1)
+first_part (Zeros p n) (Zeros q m) xs ys f g h =
+    let both = first_word p q (word n ++ xs) (word m ++ ys) f.0 g.0 (ap (drop 4) h) in
+    let rest = first_word n m xs ys f.1 g.1 both.1 in
+    let head : p ≡ q = both.0 in
+    let body : n ≡ m = rest.0 in
+    (cc, rest.1)
+first_part (Round r) (Header v n) xs ys f g h = absurd g
+first_part (Round r) (Page q others) xs ys f g h = let k : 1 ≡ 2 = first_cell _ _ h in absurd (omega (arith, k))
+first_part (Round r) (Zeros q m) xs ys f g h = let k : 1 ≡ 4 = first_cell _ _ h in absurd (omega (arith, k))
+first_part (Round r) (End n) xs ys f g h = absurd g
+first_part (Page p bytes) (Header v n) xs ys f g h = absurd g
+first_part (Page p bytes) (Round s) xs ys f g h = let k : 2 ≡ 1 = first_cell _ _ h in absurd (omega (arith, k))
+first_part (Page p bytes) (Zeros q m) xs ys f g h = let k : 2 ≡ 4 = first_cell _ _ h in absurd (omega (arith, k))
+first_part (Page p bytes) (End n) xs ys f g h = absurd g
+first_part (Zeros p n) (Header v m) xs ys f g h = absurd g
+first_part (Zeros p n) (Round s) xs ys f g h = let k : 4 ≡ 1 = first_cell _ _ h in absurd (omega (arith, k))
+first_part (Zeros p n) (Page q others) xs ys f g h = let k : 4 ≡ 2 = first_cell _ _ h in absurd (omega (arith, k))
+first_part (Zeros p n) (End m) xs ys f g h = absurd g
+
+-- the bytes of records that are given with the first one first
 abbrev front : List Part → List ℕ
 front [] = []
 front (part ∷ later) = part_bytes part ++ front later
 
+-- these records, the first one first, after others
+abbrev onto : List Part → List Part → List Part
+onto done [] = done
+onto done (part ∷ later) = onto (part ∷ done) later
+
+abbrev AreNext : ℕ → ℕ → List Part → List Part → Type 0
+AreNext version pages done [] = Unit {0}
+AreNext version pages done (part ∷ later) = MayStand version pages part done × AreNext version pages (part ∷ done) later
+
+-- two lists of records after the same ones, each with a stuck rest
+once : (version pages : ℕ) (done ps qs : List Part) (x y : List ℕ) → pages ≤ 16384 → AreNext version pages done ps → AreNext version pages done qs → Stuck version pages (onto done ps) x → Stuck version pages (onto done qs) y → front ps ++ x ≡ front qs ++ y → (ps ≡ qs) × (x ≡ y)
+once version pages done [] [] x y few a b s t h = (refl, h)
+once version pages done [] (q ∷ qs) x y few a b s t h = absurd (s q (front qs ++ y) b.0 (h ∙ append_assoc (part_bytes q) (front qs) y))
+once version pages done (p ∷ ps) [] x y few a b s t h = absurd (t p (front ps ++ x) a.0 (sym h ∙ append_assoc (part_bytes p) (front ps) x))
+once version pages done (p ∷ ps) (q ∷ qs) x y few a b s t h =
+    let both = first_part p q (front ps ++ x) (front qs ++ y) (stands_fits version pages p done few a.0) (stands_fits version pages q done few b.0)
+    (sym (append_assoc (part_bytes p) (front ps) x) ∙ h ∙ append_assoc (part_bytes q) (front qs) y) in
+    let same : q ≡ p = sym both.0 in
+    let more = once version pages (p ∷ done) ps qs x y few a.1 (subst (λ (r : Part). AreNext version pages (r ∷ done) qs) same b.1) s
+    (subst (λ (r : Part). Stuck version pages (onto (r ∷ done) qs) y) same t) both.1 in
+    let rest : ps ≡ qs = more.0 in
+    let head : p ≡ q = both.0 in
+    (cc, more.1)
+
+-- the same with the last record first
 front_more : (parts : List Part) (part : Part) → front (parts ++ part ∷ []) ≡ front parts ++ part_bytes part
 front_more [] part = append-nil (part_bytes part)
 front_more (first ∷ parts) part =
@@ -43,76 +116,65 @@ front_is [] = refl
 front_is (part ∷ earlier) =
     ap (λ xs. xs ++ part_bytes part) (front_is earlier) ∙ sym (front_more (reverse earlier) part) ∙ ap front (sym (reverse_onto earlier part []))
 
--- the numbers of a part fit their words, and its bytes a page
-abbrev Fits : Part → Type 0
-Fits (Round r) = r < 2 ^ 32
-Fits (Page page bytes) = (page < 2 ^ 32) × (length bytes ≡ 4096)
+onto_more : (done ps : List Part) (part : Part) → onto done (ps ++ part ∷ []) ≡ part ∷ onto done ps
+onto_more done [] part = refl
+onto_more done (p ∷ ps) part = onto_more (p ∷ done) ps part
 
-abbrev EachFits : List Part → Type 0
-EachFits [] = Unit {0}
-EachFits (part ∷ parts) = Fits part × EachFits parts
+onto_reverse : (parts : List Part) → onto [] (reverse parts) ≡ parts
+onto_reverse [] = refl
+onto_reverse (part ∷ earlier) = ap (onto []) (reverse_onto earlier part []) ∙ onto_more [] (reverse earlier) part ∙ ap (λ ps. part ∷ ps) (onto_reverse earlier)
 
-fits_more : (parts : List Part) (part : Part) → EachFits parts → Fits part → EachFits (parts ++ part ∷ [])
-fits_more [] part each fits = (fits, tt)
-fits_more (first ∷ parts) part each fits = (each.0, fits_more parts part each.1 fits)
+next_more : (version pages : ℕ) (done ps : List Part) (part : Part) → AreNext version pages done ps → MayStand version pages part (onto done ps) → AreNext version pages done (ps ++ part ∷ [])
+next_more version pages done [] part are may = (may, tt)
+next_more version pages done (p ∷ ps) part are may = (are.0, next_more version pages (p ∷ done) ps part are.1 may)
 
-fits_reversed : (pages : ℕ) (parts : List Part) → pages ≤ 16384 → AreParts pages parts → EachFits (reverse parts)
-fits_reversed pages [] few are = tt
-fits_reversed pages (Round r ∷ earlier) few are =
-    let most : r ≤ 65 = are.0.1 in
-    let fits : r < 2 ^ 32 = omega arith in
-    subst EachFits (sym (reverse_onto earlier (Round r) [])) (fits_more (reverse earlier) (Round r) (fits_reversed pages earlier few are.1) fits)
-fits_reversed pages (Page page bytes ∷ earlier) few are =
-    let named : page < pages = are.0.0 in
-    let fits : page < 2 ^ 32 = omega arith in
-    subst EachFits (sym (reverse_onto earlier (Page page bytes) [])) (fits_more (reverse earlier) (Page page bytes) (fits_reversed pages earlier few are.1) (fits, are.0.2))
+next_reverse : (version pages : ℕ) (parts : List Part) → AreParts version pages parts → AreNext version pages [] (reverse parts)
+next_reverse version pages [] are = tt
+next_reverse version pages (part ∷ earlier) are =
+    subst (AreNext version pages []) (sym (reverse_onto earlier part []))
+    (next_more version pages [] (reverse earlier) part (next_reverse version pages earlier are.1) (subst (λ (ps : List Part). MayStand version pages part ps) (sym (onto_reverse earlier)) are.0))
 
--- up to an end the parts are read in one way
-read : (ps qs : List Part) (n m : ℕ) → EachFits ps → EachFits qs → front ps ++ end_record n ≡ front qs ++ end_record m → ps ≡ qs
-unfolding round_record page_record end_record
-read [] [] n m f g h = refl
-read [] (Round r ∷ qs) n m f g h = let k : 3 ≡ 1 = ap (λ xs. get_or xs 0 0) h in absurd (omega (arith, k))
-read [] (Page page bytes ∷ qs) n m f g h = let k : 3 ≡ 2 = ap (λ xs. get_or xs 0 0) h in absurd (omega (arith, k))
-read (Round r ∷ ps) [] n m f g h = let k : 1 ≡ 3 = ap (λ xs. get_or xs 0 0) h in absurd (omega (arith, k))
-read (Round r ∷ ps) (Round q ∷ qs) n m f g h =
-    let both = first_word r q (front ps ++ end_record n) (front qs ++ end_record m) f.0 g.0 (ap (drop 4) h) in
-    let head : r ≡ q = both.0 in
-    let tail : ps ≡ qs = read ps qs n m f.1 g.1 both.1 in
-    cc
-read (Round r ∷ ps) (Page page bytes ∷ qs) n m f g h = let k : 1 ≡ 2 = ap (λ xs. get_or xs 0 0) h in absurd (omega (arith, k))
-read (Page page bytes ∷ ps) [] n m f g h = let k : 2 ≡ 3 = ap (λ xs. get_or xs 0 0) h in absurd (omega (arith, k))
-read (Page page bytes ∷ ps) (Round q ∷ qs) n m f g h = let k : 2 ≡ 1 = ap (λ xs. get_or xs 0 0) h in absurd (omega (arith, k))
-read (Page page bytes ∷ ps) (Page other others ∷ qs) n m f g h =
-    let both = first_word page other (bytes ++ front ps ++ end_record n) (others ++ front qs ++ end_record m) f.0.0 g.0.0 (ap (drop 4) h) in
-    let rest = first_bytes bytes others (front ps ++ end_record n) (front qs ++ end_record m) (f.0.1 ∙ sym g.0.1)
-    (sym (append_assoc bytes (front ps) (end_record n)) ∙ both.1 ∙ append_assoc others (front qs) (end_record m)) in
-    let head : page ≡ other = both.0 in
-    let body : bytes ≡ others = rest.0 in
-    let tail : ps ≡ qs = read ps qs n m f.1 g.1 rest.1 in
-    cc
+-- the same reading of bytes up to a stuck rest
+pub record Same (v w p q : ℕ) (ps qs : List Part) (x y : List ℕ) : Type 0 where
+  pub version : v ≡ w
+  pub pages : p ≡ q
+  pub parts : ps ≡ qs
+  pub rest : x ≡ y
 
--- behind the header
-pub past_header : (p q : ℕ) (xs ys zs ws : List ℕ) → p ≤ 16384 → q ≤ 16384 → header p ++ xs ++ zs ≡ header q ++ ys ++ ws → (p ≡ q) × (xs ++ zs ≡ ys ++ ws)
+headers_same : (v w p q : ℕ) (xs ys : List ℕ) → v ≤ 2 → w ≤ 2 → p ≤ 16384 → q ≤ 16384 → header v p ++ xs ≡ header w q ++ ys → (v ≡ w) × (p ≡ q) × (xs ≡ ys)
 unfolding header
-past_header p q xs ys zs ws fp fq h =
+headers_same v w p q xs ys fv fw fp fq h =
+    let lv : v < 2 ^ 32 = omega arith in
+    let lw : w < 2 ^ 32 = omega arith in
     let lp : p < 2 ^ 32 = omega arith in
     let lq : q < 2 ^ 32 = omega arith in
-    first_word p q (xs ++ zs) (ys ++ ws) lp lq (ap (drop 12) h)
+    let versions = first_word v w (word p ++ xs) (word q ++ ys) lv lw (ap (drop 8) h) in
+    let counts = first_word p q xs ys lp lq versions.1 in
+    (versions.0, counts.0, counts.1)
 
--- parts with the same bytes are the same
-pub same_parts : (pages : ℕ) (ps qs : List Part) (n m : ℕ) → pages ≤ 16384 → AreParts pages ps → AreParts pages qs → parts_bytes ps ++ end_record n ≡ parts_bytes qs ++ end_record m → ps ≡ qs
-same_parts pages ps qs n m few p q h =
-    let forward : reverse ps ≡ reverse qs =
-    read (reverse ps) (reverse qs) n m (fits_reversed pages ps few p) (fits_reversed pages qs few q)
-    (sym (ap (λ xs. xs ++ end_record n) (front_is ps)) ∙ h ∙ ap (λ xs. xs ++ end_record m) (front_is qs)) in
-    sym (reverse-reverse ps) ∙ ap reverse forward ∙ reverse-reverse qs
+pub same_reading : (bytes : List ℕ) (v w p q : ℕ) (ps qs : List Part) (x y : List ℕ) → Begins bytes v p ps x → Begins bytes w q qs y → Stuck v p ps x → Stuck w q qs y → Same v w p q ps qs x y
+same_reading bytes v w p q ps qs x y a b s t =
+    let heads = headers_same v w p q (parts_bytes ps ++ x) (parts_bytes qs ++ y) a.known b.known a.few b.few
+    (sym (append_assoc (header v p) (parts_bytes ps) x) ∙ sym a.bytes_are ∙ b.bytes_are ∙ append_assoc (header w q) (parts_bytes qs) y) in
+    let version : w ≡ v = sym heads.0 in
+    let pages : q ≡ p = sym heads.1 in
+    let theirs : AreParts v p qs = subst (λ (n : ℕ). AreParts n p qs) version (subst (λ (n : ℕ). AreParts w n qs) pages b.in_place) in
+    let stuck : Stuck v p qs y = subst (λ (n : ℕ). Stuck n p qs y) version (subst (λ (n : ℕ). Stuck w n qs y) pages t) in
+    let both = once v p [] (reverse ps) (reverse qs) x y a.few (next_reverse v p ps a.in_place) (next_reverse v p qs theirs)
+    (subst (λ (zs : List Part). Stuck v p zs x) (sym (onto_reverse ps)) s)
+    (subst (λ (zs : List Part). Stuck v p zs y) (sym (onto_reverse qs)) stuck)
+    (ap (λ zs. zs ++ x) (sym (front_is ps)) ∙ heads.2 ∙ ap (λ zs. zs ++ y) (front_is qs)) in
+    record {
+      version = heads.0;
+      pages = heads.1;
+      parts = sym (reverse-reverse ps) ∙ ap reverse both.0 ∙ reverse-reverse qs;
+      rest = both.1;
+    }
 
 pub loads_once : (bytes : List ℕ) → LoadsOnce bytes
 loads_once bytes a b n m s t =
-    let both = past_header s.pages t.pages (parts_bytes s.parts) (parts_bytes t.parts) (end_record (count is_page s.parts)) (end_record (count is_page t.parts)) s.few t.few (sym s.bytes_are ∙ t.bytes_are) in
-    let pages : s.pages ≡ t.pages = both.0 in
-    let parts : s.parts ≡ t.parts =
-    same_parts t.pages s.parts t.parts (count is_page s.parts) (count is_page t.parts) t.few (subst (λ (p : ℕ). AreParts p s.parts) pages s.in_place) t.in_place both.1 in (
-      s.image_is ∙ ap (λ p. loaded_image p s.parts) pages ∙ ap (λ ps. loaded_image t.pages ps) parts ∙ sym t.image_is,
-      s.counted ∙ ap (count is_page) parts ∙ sym t.counted,
+    let same = same_reading bytes s.version t.version s.pages t.pages s.parts t.parts (end_record (count has_pages s.parts)) (end_record (count has_pages t.parts)) s.begins t.begins
+    (end_stuck s.version s.pages (count has_pages s.parts) s.parts) (end_stuck t.version t.pages (count has_pages t.parts) t.parts) in (
+      s.image_is ∙ ap (λ p. loaded_image p s.parts) same.pages ∙ ap (λ ps. loaded_image t.pages ps) same.parts ∙ sym t.image_is,
+      s.counted ∙ ap (count has_pages) same.parts ∙ sym t.counted,
     )

@@ -1,67 +1,60 @@
--- The parts that a history puts on the stream: their bytes, their pages and their number.
-use Rattle.std.proofs.Common.{◌≡◌, ℕ, ◌+◌, Bool, true, false, cond, List, [], ◌∷◌, ◌++◌, Option, Some, None, is_some, refl, ap, sym, ◌∙◌, append_assoc, append-nil, inl, inr}
-use Rattle.std.specs.Prelude.{◌==◌, if◌then◌else◌}
+-- The records that a history puts on the stream between the header and the end: their bytes and their
+-- number.
+use Rattle.std.proofs.Common.{◌≡◌, ℕ, ◌+◌, Bool, true, false, cond, List, [], ◌∷◌, ◌++◌, Option, Some, None, is_some, refl, ap, sym, ◌∙◌, append_assoc, append-nil}
+use Rattle.std.specs.Prelude.{if◌then◌else◌}
 use Rattle.std.specs.List.{list_any}
 use Rattle.std.proofs.lemmas.Bool.{and_parts, both_ways, true≢false, false≢true}
-use Rattle.std.proofs.lemmas.Bool.Decides.{eqb_tells}
 use Rattle.dr_types.specs.declared.guest.Guest.{Guest}
 use Rattle.dr_types.specs.Pages.{page_count}
 use Rattle.dr_history.specs.declared.event.Event.{Event}
 use Rattle.dr_history.specs.declared.event.Event.TheVariants.{Start, Synced, Copied, Switched}
 use Rattle.dr_history.specs.Lookback.{count, since}
-use Rattle.dr_history.specs.Kinds.{is_synced, is_switched, is_copied}
-use Rattle.dr_history.specs.Memory.{page_bytes, copied_bytes}
+use Rattle.dr_history.specs.Kinds.{is_synced, is_switched}
+use Rattle.dr_history.specs.Memory.{page_bytes, zero_page}
 use Rattle.dr_history.specs.Protection.{started}
 use Rattle.dr_history.specs.Rounds.{unanswered, last_synced, is_next_copy, opens_round}
 use Rattle.dr_history.specs.Rules.{copies_next}
-use Rattle.dr_history.specs.Stream.{stream_of, header, round_record, page_record}
+use Rattle.dr_history.specs.Parts.{Part, Header, Round, Page, Zeros, part_bytes, parts_bytes, header, has_pages}
+use Rattle.dr_history.specs.Stream.{follows_zero, lengthened, with_copy, parts_of, stream_of, written_version}
 use Rattle.dr_history.specs.Legality.{IsLegalSoFar, broken}
 use Rattle.dr_history_law.proofs.Kept.{keeps, starts_facts, syncs_facts, switches_facts}
 use Rattle.dr_history_law.proofs.Switch.{number_some, unanswered_started}
 use Rattle.dr_event_law.proofs.Rounds.{synced_started, stopped_started}
-use Rattle.dr_stream_law.specs.Parts.{Part, Round, Page, parts_bytes, is_page}
-use Rattle.dr_stream_law.specs.Loading.{loaded_page}
 
--- a Round for each answer that opens one, and a Page for each Copied
-abbrev pub parts_of : Guest → List Event → List Part
-parts_of guest [] = []
-parts_of guest (Synced r at pages ∷ earlier) =
-    if opens_round guest (Synced r at pages) earlier then Round r ∷ parts_of guest earlier else parts_of guest earlier
-parts_of guest (Copied r page ∷ earlier) = Page page (page_bytes guest page earlier) ∷ parts_of guest earlier
-parts_of guest (e ∷ earlier) = parts_of guest earlier
+-- a Round for each answer that opens one, and a Page for each Copied, or one more page of zeros
+abbrev pub records_of : Guest → List Event → List Part
+records_of guest [] = []
+records_of guest (Synced r at pages ∷ earlier) =
+    if opens_round guest (Synced r at pages) earlier then Round r ∷ records_of guest earlier else records_of guest earlier
+records_of guest (Copied r page ∷ earlier) =
+    with_copy page (page_bytes guest page earlier) (follows_zero guest r page earlier) (records_of guest earlier)
+records_of guest (e ∷ earlier) = records_of guest earlier
 
--- a round changes no page
-round_loaded : (opens : Bool) (page r : ℕ) (parts : List Part) → loaded_page page (cond opens (Round r ∷ parts) parts) ≡ loaded_page page parts
-round_loaded true page r parts = refl
-round_loaded false page r parts = refl
+round_counted : (opens : Bool) (r : ℕ) (parts records : List Part) → count has_pages parts ≡ count has_pages records → count has_pages (cond opens (Round r ∷ parts) parts) ≡ count has_pages (cond opens (Round r ∷ records) records)
+round_counted true r parts records h = h
+round_counted false r parts records h = h
 
-page_loaded : (guest : Guest) (q page : ℕ) (past : List Event) (old new : List ℕ) → old ≡ new → cond (q == page) (page_bytes guest q past) old ≡ cond (q == page) (page_bytes guest page past) new
-page_loaded guest q page past old new h =
-    elim (eqb_tells q page) [
-      | inl s ↦ let e : (q == page) ≡ true = s.0 in rw e (ap (λ p. page_bytes guest p past) s.1)
-      | inr d ↦ let e : (q == page) ≡ false = d.0 in rw e h
-    ]
+same_count : (parts : List Part) → count has_pages (lengthened parts) ≡ count has_pages parts
+same_count [] = refl
+same_count (Zeros first n ∷ parts) = refl
+same_count (part ∷ parts) = refl
 
--- a page is loaded as it was copied last
-pub loaded_copied : (guest : Guest) (page : ℕ) (past : List Event) → loaded_page page (parts_of guest past) ≡ copied_bytes guest page past
-loaded_copied guest page [] = refl
-loaded_copied guest page (Synced r at pages ∷ past) =
-    round_loaded (opens_round guest (Synced r at pages) past) page r (parts_of guest past) ∙ loaded_copied guest page past
-loaded_copied guest page (Copied r q ∷ past) =
-    page_loaded guest q page past (loaded_page page (parts_of guest past)) (copied_bytes guest page past) (loaded_copied guest page past)
-loaded_copied guest page (e ∷ past) = loaded_copied guest page past
+copy_counted : (zero goes : Bool) (page : ℕ) (bytes : List ℕ) (parts records : List Part) → count has_pages parts ≡ count has_pages records
+    → count has_pages (cond zero (cond goes (lengthened parts) (Zeros page 1 ∷ parts)) (Page page bytes ∷ parts)) ≡ count has_pages (cond zero (cond goes (lengthened records) (Zeros page 1 ∷ records)) (Page page bytes ∷ records))
+copy_counted true true page bytes parts records h = same_count parts ∙ h ∙ sym (same_count records)
+copy_counted true false page bytes parts records h = ap (λ n. n + 1) h
+copy_counted false goes page bytes parts records h = ap (λ n. n + 1) h
 
-round_counted : (opens : Bool) (r : ℕ) (parts : List Part) → count is_page (cond opens (Round r ∷ parts) parts) ≡ count is_page parts
-round_counted true r parts = refl
-round_counted false r parts = refl
-
--- there are as many pages as copies
-pub count_copied : (guest : Guest) (past : List Event) → count is_page (parts_of guest past) ≡ count is_copied past
-count_copied guest [] = refl
-count_copied guest (Synced r at pages ∷ past) =
-    round_counted (opens_round guest (Synced r at pages) past) r (parts_of guest past) ∙ count_copied guest past
-count_copied guest (Copied r page ∷ past) = ap (λ n. n + 1) (count_copied guest past)
-count_copied guest (e ∷ past) = count_copied guest past
+-- header and end are no records of pages
+pub count_records : (guest : Guest) (past : List Event) → count has_pages (parts_of guest past) ≡ count has_pages (records_of guest past)
+count_records guest [] = refl
+count_records guest (Start at ∷ past) = count_records guest past
+count_records guest (Synced r at pages ∷ past) =
+    round_counted (opens_round guest (Synced r at pages) past) r (parts_of guest past) (records_of guest past) (count_records guest past)
+count_records guest (Copied r page ∷ past) =
+    copy_counted (zero_page guest page past) (follows_zero guest r page past) page (page_bytes guest page past) (parts_of guest past) (records_of guest past) (count_records guest past)
+count_records guest (Switched ∷ past) = count_records guest past
+count_records guest (e ∷ past) = count_records guest past
 
 -- a copy is of the last answer
 pub copy_next : (guest : Guest) (past : List Event) (r page : ℕ) → broken guest past (Copied r page) ≡ None → is_next_copy guest r page (last_synced past) (since is_synced past) ≡ true
@@ -73,7 +66,7 @@ next_some guest r page None later h = absurd (false≢true h)
 next_some guest r page (Some synced) later h = refl
 
 -- before Start nothing is put on the stream
-unstarted : (guest : Guest) (past : List Event) → IsLegalSoFar guest past → started past ≡ false → (stream_of guest past ≡ []) × (parts_of guest past ≡ [])
+unstarted : (guest : Guest) (past : List Event) → IsLegalSoFar guest past → started past ≡ false → (parts_of guest past ≡ []) × (records_of guest past ≡ [])
 unstarted guest [] legal s = (refl, refl)
 unstarted guest (Start at ∷ past) legal s = absurd (true≢false s)
 unstarted guest (Synced r at pages ∷ past) legal s =
@@ -82,22 +75,44 @@ unstarted guest (Copied r page ∷ past) legal s =
     absurd (both_ways (started past) s (synced_started guest past legal.1 (next_some guest r page (last_synced past) (since is_synced past) (copy_next guest past r page legal.0))))
 unstarted guest (Switched ∷ past) legal s =
     absurd (both_ways (started past) s (stopped_started guest past legal.1 (switches_facts guest past legal.0).stopped))
-unstarted guest (e ∷ past) legal s = let h = unstarted guest past legal.1 s in (append-nil (stream_of guest past) ∙ h.0, h.1)
+unstarted guest (e ∷ past) legal s = unstarted guest past legal.1 s
 
-round_sent : (opens : Bool) (r : ℕ) (sent first : List ℕ) (parts : List Part) → sent ≡ first ++ parts_bytes parts → sent ++ cond opens (round_record r) [] ≡ first ++ parts_bytes (cond opens (Round r ∷ parts) parts)
-round_sent true r sent first parts h = ap (λ xs. xs ++ round_record r) h ∙ append_assoc first (parts_bytes parts) (round_record r)
-round_sent false r sent first parts h = append-nil sent ∙ h
+round_begun : (opens : Bool) (r : ℕ) (first : Part) (parts records : List Part) → parts ≡ records ++ first ∷ [] → cond opens (Round r ∷ parts) parts ≡ cond opens (Round r ∷ records) records ++ first ∷ []
+round_begun true r first parts records h = ap (λ xs. Round r ∷ xs) h
+round_begun false r first parts records h = h
 
--- from Start to the switch-over the stream is the header and the parts
-pub sent : (guest : Guest) (past : List Event) → IsLegalSoFar guest past → started past ≡ true → list_any is_switched past ≡ false → stream_of guest past ≡ header (page_count guest) ++ parts_bytes (parts_of guest past)
-sent guest [] legal s here = absurd (false≢true s)
-sent guest (Start at ∷ past) legal s here =
+same_end : (version pages : ℕ) (records : List Part) → lengthened (records ++ Header version pages ∷ []) ≡ lengthened records ++ Header version pages ∷ []
+same_end version pages [] = refl
+same_end version pages (Zeros first n ∷ records) = refl
+same_end version pages (part ∷ records) = refl
+
+copy_begun : (zero goes : Bool) (page version pages : ℕ) (bytes : List ℕ) (parts records : List Part) → parts ≡ records ++ Header version pages ∷ []
+    → cond zero (cond goes (lengthened parts) (Zeros page 1 ∷ parts)) (Page page bytes ∷ parts) ≡ cond zero (cond goes (lengthened records) (Zeros page 1 ∷ records)) (Page page bytes ∷ records) ++ Header version pages ∷ []
+copy_begun true true page version pages bytes parts records h = ap lengthened h ∙ same_end version pages records
+copy_begun true false page version pages bytes parts records h = ap (λ xs. Zeros page 1 ∷ xs) h
+copy_begun false goes page version pages bytes parts records h = ap (λ xs. Page page bytes ∷ xs) h
+
+-- from Start to the switch-over the parts are the header, and then the records
+begun : (guest : Guest) (past : List Event) → IsLegalSoFar guest past → started past ≡ true → list_any is_switched past ≡ false → parts_of guest past ≡ records_of guest past ++ Header written_version (page_count guest) ∷ []
+begun guest [] legal s here = absurd (false≢true s)
+begun guest (Start at ∷ past) legal s here =
     let none = unstarted guest past legal.1 (starts_facts guest past at legal.0) in
-    ap (λ xs. xs ++ header (page_count guest)) none.0 ∙ sym (ap (λ parts. header (page_count guest) ++ parts_bytes parts) none.1 ∙ append-nil (header (page_count guest)))
-sent guest (Synced r at pages ∷ past) legal s here =
-    round_sent (opens_round guest (Synced r at pages) past) r (stream_of guest past) (header (page_count guest)) (parts_of guest past) (sent guest past legal.1 s here)
-sent guest (Copied r page ∷ past) legal s here =
-    ap (λ xs. xs ++ page_record page (page_bytes guest page past)) (sent guest past legal.1 s here)
-    ∙ append_assoc (header (page_count guest)) (parts_bytes (parts_of guest past)) (page_record page (page_bytes guest page past))
-sent guest (Switched ∷ past) legal s here = absurd (true≢false here)
-sent guest (e ∷ past) legal s here = append-nil (stream_of guest past) ∙ sent guest past legal.1 s here
+    let first : List Part = Header written_version (page_count guest) ∷ [] in
+    ap (λ xs. Header written_version (page_count guest) ∷ xs) none.0 ∙ sym (ap (λ xs. xs ++ first) none.1)
+begun guest (Synced r at pages ∷ past) legal s here =
+    round_begun (opens_round guest (Synced r at pages) past) r (Header written_version (page_count guest)) (parts_of guest past) (records_of guest past) (begun guest past legal.1 s here)
+begun guest (Copied r page ∷ past) legal s here =
+    copy_begun (zero_page guest page past) (follows_zero guest r page past) page written_version (page_count guest) (page_bytes guest page past) (parts_of guest past) (records_of guest past) (begun guest past legal.1 s here)
+begun guest (Switched ∷ past) legal s here = absurd (true≢false here)
+begun guest (e ∷ past) legal s here = begun guest past legal.1 s here
+
+-- what stands at the end of a list of parts comes first
+first_bytes : (parts : List Part) (first : Part) → parts_bytes (parts ++ first ∷ []) ≡ part_bytes first ++ parts_bytes parts
+first_bytes [] first = sym (append-nil (part_bytes first))
+first_bytes (part ∷ parts) first =
+    ap (λ xs. xs ++ part_bytes part) (first_bytes parts first) ∙ append_assoc (part_bytes first) (parts_bytes parts) (part_bytes part)
+
+-- so the stream is the header and the records
+pub sent : (guest : Guest) (past : List Event) → IsLegalSoFar guest past → started past ≡ true → list_any is_switched past ≡ false → stream_of guest past ≡ header written_version (page_count guest) ++ parts_bytes (records_of guest past)
+sent guest past legal s here =
+    ap parts_bytes (begun guest past legal s here) ∙ first_bytes (records_of guest past) (Header written_version (page_count guest))

@@ -1,3 +1,3 @@
-pub mod Parts
+pub mod Grammar
 pub mod Loading
 pub mod Samples

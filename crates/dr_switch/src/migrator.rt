@@ -12,7 +12,7 @@ use std::sync::Wait;
 enum Next {
     /// It goes on.
     Moved,
-    /// A page was copied.
+    /// A page was copied, or pages of zeros together.
     Copied,
     /// A vCPU is to move first.
     Waits,
@@ -42,7 +42,12 @@ fn turn<N: Name, O: Outlet, C: Clock, R: Wait>(
             flush(rt, shared)?;
             Ok(Next::Moved)
         }
-        Advance::Copied { r: _, page: _ } => Ok(Next::Copied),
+        Advance::Copied { r: _, page: _ }
+        | Advance::Blank {
+            r: _,
+            first: _,
+            count: _,
+        } => { Ok(Next::Copied) }
         Advance::Stopping => Ok(Next::Stopped),
         Advance::Finished | Advance::Budget => Ok(Next::Ended),
         Advance::Started
@@ -75,9 +80,9 @@ fn turn_or_end<N: Name, O: Outlet, C: Clock, R: Wait>(
     }
 }
 
-/// Makes the migrator's turns until the guest is stopped. It passes the gate after its n-th copy,
-/// from 1 on, with n and outside all locks. It ends too where the run stands at its end or was
-/// given up, and after a fault, which gives it up.
+/// Makes the migrator's turns until the guest is stopped. It passes the gate after its n-th turn
+/// that copied, from 1 on, with n and outside all locks. It ends too where the run stands at its
+/// end or was given up, and after a fault, which gives it up.
 pub fn rounds_live<N: Name, O: Outlet, C: Clock, G: Gate, R: Wait>(
     rt: &R,
     alloc: Global,

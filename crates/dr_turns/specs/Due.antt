@@ -1,7 +1,7 @@
 -- What advance is due, by the first of a list that applies, and the events after it.
 use Rattle.std.specs.Prelude.{ℕ, zero, suc, Bool, not, ◌+◌, ◌==◌, ◌&&◌, nat_le, nat_lt}
-use Rattle.std.specs.Prelude.{if◌then◌else◌, List, ◌∷◌, length, slice_get, Option, Some, None}
-use Rattle.std.specs.Prelude.{is_some}
+use Rattle.std.specs.Prelude.{if◌then◌else◌, List, [], ◌∷◌, drop, length, slice_get}
+use Rattle.std.specs.Prelude.{Option, Some, None, is_some}
 use Rattle.std.specs.List.{list_any}
 use Rattle.dr_types.specs.declared.guest.Guest.{Guest}
 use Rattle.dr_types.specs.Pages.{page_count}
@@ -13,13 +13,14 @@ use Rattle.dr_history.specs.Lookback.{count, since, below}
 use Rattle.dr_history.specs.Kinds.{is_op_of, is_asked, is_stopped, is_switched}
 use Rattle.dr_history.specs.Protection.{started, closing}
 use Rattle.dr_history.specs.Dirty.{dirty_pages}
+use Rattle.dr_history.specs.Memory.{zero_page}
 use Rattle.dr_history.specs.Entries.{resets}
 use Rattle.dr_history.specs.Execution.{ops}
 use Rattle.dr_history.specs.Throttles.{throttle}
 use Rattle.dr_history.specs.Vcpus.{stopped}
 use Rattle.dr_history.specs.Rounds.{asks, unanswered, last_synced, answered_round, answered_pages}
 use Rattle.dr_history.specs.Rounds.{opens_round, few_answered}
-use Rattle.dr_history_law.specs.Copies.{copies}
+use Rattle.dr_history_law.specs.Copies.{copies, pages_of}
 use Rattle.dr_turns.specs.Firsts.{first_unpaced, first_kicked, first_unreset}
 use Rattle.dr_turns.specs.declared.answers.Advance.{Advance}
 use Rattle.dr_turns.specs.declared.answers.Advance.TheVariants as advance
@@ -63,7 +64,8 @@ abbrev pub answered : Guest → ℕ → ℕ → List Event → Option ℕ → Ad
 answered guest now r past None = reset_answer guest now r past (first_unreset guest past)
 answered guest now r past (Some v) = (advance.NotOut v, past)
 
--- 3. The next page of an open round is copied.
+-- 3. The next page of an open round is copied, or where it is zero, as many pages as are zero from
+-- there on and rise by one.
 abbrev pub page_to_copy_of : Guest → List Event → Option (Event × List Event) → Option ℕ
 page_to_copy_of guest past None = None
 page_to_copy_of guest past (Some synced) =
@@ -76,6 +78,28 @@ page_to_copy guest past = page_to_copy_of guest past (last_synced past)
 abbrev pub round_of : Option (Event × List Event) → ℕ
 round_of None = 0
 round_of (Some synced) = answered_round synced.0
+
+-- how many of these pages, from the first on, are zero and rise by one from this number on
+abbrev pub zeros_from : Guest → List Event → ℕ → List ℕ → ℕ
+zeros_from guest past page [] = 0
+zeros_from guest past page (q ∷ pages) =
+    if q == page && zero_page guest q past then suc (zeros_from guest past (page + 1) pages) else 0
+
+-- how many pages of zeros are to be copied together, from this page on
+abbrev pub zeros_to_copy : Guest → List Event → ℕ → ℕ
+zeros_to_copy guest past page =
+    zeros_from guest past page (drop (copies past) (pages_of (last_synced past)))
+
+-- so many pages are copied, from a first one on
+abbrev pub copies_from : ℕ → ℕ → ℕ → List Event → List Event
+copies_from r first zero past = past
+copies_from r first (suc n) past = Copied r (first + n) ∷ copies_from r first n past
+
+-- a page is copied alone, or as the first of so many pages of zeros
+abbrev pub copied_together : ℕ → ℕ → ℕ → List Event → Advance × List Event
+copied_together r page zero past = (advance.Copied r page, Copied r page ∷ past)
+copied_together r page (suc n) past =
+    (advance.Blank r page (suc n), copies_from r page (suc n) past)
 
 -- a round is asked
 abbrev pub asked : List Event → Advance × List Event
@@ -110,7 +134,7 @@ after_copies guest past =
 abbrev pub copied : Guest → List Event → Option ℕ → Advance × List Event
 copied guest past None = after_copies guest past
 copied guest past (Some page) =
-    let r = round_of (last_synced past) in (advance.Copied r page, Copied r page ∷ past)
+    copied_together (round_of (last_synced past)) page (zeros_to_copy guest past page) past
 
 abbrev pub answered_or_copied : Guest → ℕ → List Event → Option ℕ → Advance × List Event
 answered_or_copied guest now past None = copied guest past (page_to_copy guest past)

@@ -34,6 +34,8 @@ pub enum Advance {
     Answered { r: u32, pages: u32 },
     /// A page of the round was copied.
     Copied { r: u32, page: u32 },
+    /// So many pages of the round were copied, from the first on, each of which is zero.
+    Blank { r: u32, first: u32, count: u32 },
     /// A round was asked.
     Asked { r: u32 },
     /// The guest was stopped.

@@ -1,5 +1,5 @@
 -- Which advance comes, by cases: what holds where each is due, and what it answers and leaves.
-use Rattle.std.proofs.Common.{◌≡◌, ℕ, ◌<◌, Bool, true, false, cond, List, ◌∷◌, Option, Some, None, refl, length}
+use Rattle.std.proofs.Common.{◌≡◌, ℕ, zero, suc, ◌<◌, Bool, true, false, cond, List, ◌∷◌, Option, Some, None, refl, length}
 use Rattle.std.specs.Prelude.{◌==◌, nat_lt}
 use Rattle.std.specs.List.{list_any}
 use Rattle.std.proofs.lemmas.Bool.{eqb-true, ltb-true}
@@ -15,7 +15,7 @@ use Rattle.dr_history.specs.Vcpus.{stopped}
 use Rattle.dr_turns.specs.declared.answers.Advance.{Advance}
 use Rattle.dr_turns.specs.declared.answers.Advance.TheVariants as advance
 use Rattle.dr_turns.specs.Firsts.{first_unpaced, first_kicked, first_unreset}
-use Rattle.dr_turns.specs.Due.{advanced, begun, some_closing, answered_behind, reset_answer, answered, page_to_copy, round_of, asked, asked_where_paced, next_round, after_stop, copied, answered_or_copied}
+use Rattle.dr_turns.specs.Due.{advanced, begun, some_closing, answered_behind, reset_answer, answered, page_to_copy, zeros_to_copy, copies_from, copied_together, round_of, asked, asked_where_paced, next_round, after_stop, copied, answered_or_copied}
 
 -- the advance appends nothing
 abbrev pub IsWait : Advance → Type 0
@@ -40,7 +40,7 @@ pub record AnswerDue (guest : Guest) (past : List Event) (r : ℕ) : Type 0 wher
   pub reset : first_unreset guest past ≡ None
   pub flushed : some_closing guest past ≡ false
 
--- a page is copied
+-- a page is copied, alone or with others after it
 pub record CopyDue (guest : Guest) (past : List Event) (page : ℕ) : Type 0 where
   pub begun : started past ≡ true
   pub answered : unanswered past ≡ None
@@ -58,7 +58,8 @@ pub record AdvanceCases (guest : Guest) (now : ℕ) (past : List Event) (G : Adv
   pub waits : (a : Advance) → IsWait a → G (a, past)
   pub starts : StartDue guest past → G (advance.Started, Start now ∷ past)
   pub answers : (r : ℕ) → AnswerDue guest past r → G (advance.Answered r (length (dirty_pages guest past)), answered_behind guest r now past)
-  pub copies : (page : ℕ) → CopyDue guest past page → G (advance.Copied (round_of (last_synced past)) page, Copied (round_of (last_synced past)) page ∷ past)
+  pub copies : (page : ℕ) → CopyDue guest past page → zeros_to_copy guest past page ≡ 0 → G (advance.Copied (round_of (last_synced past)) page, Copied (round_of (last_synced past)) page ∷ past)
+  pub blanks : (page n : ℕ) → CopyDue guest past page → zeros_to_copy guest past page ≡ suc n → G (advance.Blank (round_of (last_synced past)) page (suc n), copies_from (round_of (last_synced past)) page (suc n) past)
   pub asks_last : GoesOn guest past → stopped past ≡ true → list_any is_asked (since is_stopped past) ≡ false → G (asked past)
   pub switches : GoesOn guest past → stopped past ≡ true → list_any is_asked (since is_stopped past) ≡ true → G (advance.Switched, Switched ∷ past)
   pub stops : GoesOn guest past → stopped past ≡ false → few_answered guest (last_synced past) ≡ true → G (advance.Stopping, Stopped ∷ past)
@@ -109,12 +110,17 @@ on_case G guest now past each on =
     (λ h. next_case G guest now past each on runs many (ltb-true (asks past) guest.settings.rounds h))
     (λ h. each.waits advance.Budget tt)))
 
+together_case : (G : Advance × List Event → Type 0) (guest : Guest) (now : ℕ) (past : List Event) (page n : ℕ) → AdvanceCases guest now past G → CopyDue guest past page → zeros_to_copy guest past page ≡ n → G (copied_together (round_of (last_synced past)) page n past)
+together_case G guest now past page zero each due is = each.copies page due is
+together_case G guest now past page (suc n) each due is = each.blanks page n due is
+
 copied_case : (G : Advance × List Event → Type 0) (guest : Guest) (now : ℕ) (past : List Event) (o : Option ℕ) → AdvanceCases guest now past G → started past ≡ true → unanswered past ≡ None → page_to_copy guest past ≡ o → G (copied guest past o)
 copied_case G guest now past None each begun answered is =
     if_case G (list_any is_switched past) (advance.Finished, past) _
     (λ h. each.waits advance.Finished tt)
     (λ h. on_case G guest now past each (record { begun = begun; answered = answered; copied = is; here = h }))
-copied_case G guest now past (Some page) each begun answered is = each.copies page (record { begun = begun; answered = answered; next = is })
+copied_case G guest now past (Some page) each begun answered is =
+    together_case G guest now past page (zeros_to_copy guest past page) each (record { begun = begun; answered = answered; next = is }) refl
 
 round_case : (G : Advance × List Event → Type 0) (guest : Guest) (now : ℕ) (past : List Event) (o : Option ℕ) → AdvanceCases guest now past G → started past ≡ true → unanswered past ≡ o → G (answered_or_copied guest now past o)
 round_case G guest now past None each begun is = copied_case G guest now past (page_to_copy guest past) each begun is refl

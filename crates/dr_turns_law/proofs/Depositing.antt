@@ -1,6 +1,6 @@
 -- A deposit.
 use Rattle.std.proofs.Common.{◌≡◌, ℕ, zero, suc, ◌+◌, ◌<◌, ◌≤◌, Bool, true, false, List, ◌∷◌, refl, ap, sym, ◌∙◌, arith}
-use Rattle.std.specs.Prelude.{◌&&◌, nat_le, Option, Some, None}
+use Rattle.std.specs.Prelude.{◌&&◌, nat_le, Some, None}
 use Rattle.std.specs.List.{list_any}
 use Rattle.std.proofs.lemmas.Bool.{le-leb, lt-leb}
 use Rattle.dr_types.specs.declared.guest.Guest.{Guest}

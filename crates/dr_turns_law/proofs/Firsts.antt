@@ -1,6 +1,6 @@
 -- The least number that passes, found by going up.
-use Rattle.std.proofs.Common.{◌≡◌, ℕ, zero, suc, ◌+◌, ◌<◌, ◌≤◌, Bool, true, false, ap, sym, subst, ◌∙◌, arith, inl, inr, refl}
-use Rattle.std.specs.Prelude.{Option, Some, None}
+use Rattle.std.proofs.Common.{◌≡◌, ℕ, zero, suc, ◌+◌, ◌<◌, ◌≤◌, Bool, true, false, subst, ◌∙◌, arith, inl, inr, refl}
+use Rattle.std.specs.Prelude.{Some, None}
 use Rattle.std.proofs.lemmas.Bool.{cases_lt}
 use Rattle.dr_turns.specs.Firsts.{first_below}
 use Rattle.dr_turns_law.proofs.Found.{first_more}

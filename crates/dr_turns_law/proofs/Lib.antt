@@ -14,6 +14,7 @@ pub mod Reach
 pub mod Answering
 pub mod Going
 pub mod Copying
+pub mod Together
 pub mod Cases
 pub mod Whole
 pub mod Least

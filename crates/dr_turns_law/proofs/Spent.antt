@@ -1,5 +1,5 @@
 -- Where all rounds were asked and the last left too many pages.
-use Rattle.std.proofs.Common.{◌≡◌, ℕ, ◌≤◌, Bool, true, false, cond, List, ◌∷◌, Option, Some, None, is_some, refl, ap, ◌∙◌}
+use Rattle.std.proofs.Common.{◌≡◌, ℕ, zero, suc, ◌≤◌, Bool, true, false, cond, List, ◌∷◌, Option, Some, None, is_some, refl, ap, ◌∙◌}
 use Rattle.std.specs.Prelude.{◌&&◌, ◌==◌, ◌↔◌, not, nat_le, nat_lt}
 use Rattle.std.specs.List.{list_any}
 use Rattle.std.proofs.lemmas.Bool.{le-leb, leb-true, ltb-false, le-ltb}
@@ -14,7 +14,7 @@ use Rattle.dr_history.specs.Rounds.{asks, unanswered, last_synced, few_answered}
 use Rattle.dr_turns.specs.declared.answers.Advance.{Advance}
 use Rattle.dr_turns.specs.declared.answers.Advance.TheVariants as advance
 use Rattle.dr_turns.specs.Firsts.{first_unpaced, first_kicked, first_unreset}
-use Rattle.dr_turns.specs.Due.{begun, some_closing, answered_behind, reset_answer, answered, page_to_copy, asked, asked_where_paced, next_round, after_stop, after_copies, copied, answered_or_copied, advanced, is_spent}
+use Rattle.dr_turns.specs.Due.{begun, some_closing, answered_behind, reset_answer, answered, page_to_copy, zeros_to_copy, copied_together, round_of, asked, asked_where_paced, next_round, after_stop, after_copies, copied, answered_or_copied, advanced, is_spent}
 
 -- nothing is due any more, but the last answer has too many pages
 record Spent (guest : Guest) (past : List Event) : Type 0 where
@@ -106,9 +106,13 @@ after_last guest past h =
     (stop_case (list_any is_asked (since is_stopped past)) _ _ _) (next_case (asks past == 0) past (first_unpaced guest (since is_asked past) past)) h in
     record { here = p.0; runs = p.1; many = p.2; asked = ltb-false (asks past) guest.settings.rounds p.3 }
 
+together_other : (r page n : ℕ) (past : List Event) → (copied_together r page n past).0 ≡ advance.Budget → ⊥
+together_other r page zero past h = cc
+together_other r page (suc n) past h = cc
+
 copied_case : (guest : Guest) (past : List Event) (page : Option ℕ) → (copied guest past page).0 ≡ advance.Budget → (page ≡ None) × Last guest past
 copied_case guest past None h = (refl, after_last guest past h)
-copied_case guest past (Some page) h = cc
+copied_case guest past (Some page) h = absurd (together_other (round_of (last_synced past)) page (zeros_to_copy guest past page) past h)
 
 round_case : (guest : Guest) (now : ℕ) (past : List Event) (r : Option ℕ) → (answered_or_copied guest now past r).0 ≡ advance.Budget → (r ≡ None) × (page_to_copy guest past ≡ None) × Last guest past
 round_case guest now past None h = let c = copied_case guest past (page_to_copy guest past) h in (refl, c.0, c.1)

@@ -20,13 +20,14 @@ use Rattle.dr_event_law.specs.May.{MayFollow}
 use Rattle.dr_turns.specs.declared.answers.Advance.{Advance}
 use Rattle.dr_turns.specs.declared.answers.Advance.TheVariants as advance
 use Rattle.dr_turns.specs.Between.{AtTurnsEnd}
-use Rattle.dr_turns.specs.Due.{advanced, throttled_behind, answered_behind, round_of}
+use Rattle.dr_turns.specs.Due.{advanced, throttled_behind, answered_behind, zeros_to_copy, copies_from, round_of}
 use Rattle.dr_turns_law.proofs.Starting.{start_follows, start_ends}
 use Rattle.dr_turns_law.specs.Advances.{IsAdvance, SameEntries}
 use Rattle.dr_turns_law.proofs.Answering.{asked_here, answer_follows, throttle_follows, answered_ends}
 use Rattle.dr_turns_law.proofs.Copying.{copy_follows, copy_ends}
 use Rattle.dr_turns_law.proofs.Going.{stop_follows, stop_ends, switch_follows, switch_ends, ask_last_follows, ask_first_follows, ask_later_follows, ask_ends}
-use Rattle.dr_turns_law.proofs.Cases.{AnswerDue, IsWait, advanced_cases}
+use Rattle.dr_turns_law.proofs.Cases.{AnswerDue, CopyDue, IsWait, advanced_cases}
+use Rattle.dr_turns_law.proofs.Together.{run_keeps, run_on}
 
 -- an event that breaks no rule goes on a legal history
 legal_on : (guest : Guest) (past : List Event) (e : Event) → MayFollow guest past e → IsLegalSoFar guest past → IsLegalSoFar guest (e ∷ past)
@@ -51,6 +52,15 @@ answered_legal guest past r now legal end due =
     (legal_on guest past (Synced r now (dirty_pages guest past)) (answer_follows guest past r now legal end due.asked due.out due.reset due.flushed) legal)
     end (asked_here guest past legal (rw due.asked refl))
 
+-- pages of zeros that are copied together break no rule, and after each nothing is owed
+pub run_stands : (guest : Guest) (past : List Event) (page n : ℕ) → CopyDue guest past page → n ≤ zeros_to_copy guest past page → IsLegalSoFar guest past → AtTurnsEnd guest past → IsLegalSoFar guest (copies_from (round_of (last_synced past)) page n past) × AtTurnsEnd guest (copies_from (round_of (last_synced past)) page n past)
+run_stands guest past page n due le legal end =
+    run_keeps (λ (xs : List Event). IsLegalSoFar guest xs × AtTurnsEnd guest xs) guest past page n due le (legal, end)
+    (λ xs q here so. (
+      legal_on guest xs (Copied (round_of (last_synced xs)) q) (copy_follows guest xs q so.0 so.1 here.answered here.next) so.0,
+      copy_ends guest xs q so.0 so.1 here.answered here.next,
+    ))
+
 -- what the advance appends breaks no rule
 pub advanced_legal : (guest : Guest) (now : ℕ) (past : List Event) → IsLegalSoFar guest past → AtTurnsEnd guest past → IsLegalSoFar guest (advanced guest now past).1
 advanced_legal guest now past legal end =
@@ -58,7 +68,8 @@ advanced_legal guest now past legal end =
       waits = λ a is. legal;
       starts = λ due. legal_on guest past (Start now) (start_follows guest past now legal end due.fresh due.paced) legal;
       answers = λ r due. answered_legal guest past r now legal end due;
-      copies = λ page due. legal_on guest past (Copied (round_of (last_synced past)) page) (copy_follows guest past page legal end due.answered due.next) legal;
+      copies = λ page due alone. legal_on guest past (Copied (round_of (last_synced past)) page) (copy_follows guest past page legal end due.answered due.next) legal;
+      blanks = λ page n due zeros. (run_stands guest past page (suc n) due (omega (arith, zeros)) legal end).0;
       asks_last = λ on stop fresh. legal_on guest past (Asked (asks past + 1)) (ask_last_follows guest past legal end on.answered on.here stop fresh) legal;
       switches = λ on stop asked. legal_on guest past Switched (switch_follows guest past legal end on.answered on.copied on.here stop asked) legal;
       stops = λ on runs few. legal_on guest past Stopped (stop_follows guest past legal end on.answered on.here runs few) legal;
@@ -73,7 +84,8 @@ advance_ends guest now past legal end =
       waits = λ a is. end;
       starts = λ due. start_ends guest past now legal end due.fresh;
       answers = λ r due. answered_ends guest past r now legal end due.asked due.out due.reset due.flushed;
-      copies = λ page due. copy_ends guest past page legal end due.answered due.next;
+      copies = λ page due alone. copy_ends guest past page legal end due.answered due.next;
+      blanks = λ page n due zeros. (run_stands guest past page (suc n) due (omega (arith, zeros)) legal end).1;
       asks_last = λ on stop fresh. ask_ends guest past end on.here;
       switches = λ on stop asked. switch_ends guest past legal end on.answered on.copied on.here stop asked;
       stops = λ on runs few. stop_ends guest past legal end on.answered on.here runs few;
@@ -106,7 +118,8 @@ by_advanced P guest now past h on =
       waits = λ a is. h;
       starts = λ due. on (Start now) past tt h;
       answers = λ r due. answer_keeps P guest past r now h on;
-      copies = λ page due. on (Copied (round_of (last_synced past)) page) past tt h;
+      copies = λ page due alone. on (Copied (round_of (last_synced past)) page) past tt h;
+      blanks = λ page n due zeros. run_on P (round_of (last_synced past)) page (suc n) past h (λ q xs so. on (Copied (round_of (last_synced past)) q) xs tt so);
       asks_last = λ _ stop fresh. on (Asked (asks past + 1)) past tt h;
       switches = λ _ stop asked. on Switched past tt h;
       stops = λ _ runs few. on Stopped past tt h;
@@ -141,7 +154,8 @@ answered_covers guest now past r n legal end =
       answers = λ round due h.
           covers_opened guest past round now (dirty_pages guest past)
           (legal_on guest past (Synced round now (dirty_pages guest past)) (answer_follows guest past round now legal end due.asked due.out due.reset due.flushed) legal);
-      copies = λ page due h. cc;
+      copies = λ page due alone h. cc;
+      blanks = λ page n due zeros h. cc;
       asks_last = λ _ stop fresh h. cc;
       switches = λ _ stop asked h. cc;
       stops = λ _ runs few h. cc;

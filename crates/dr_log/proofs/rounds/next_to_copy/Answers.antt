@@ -1,5 +1,4 @@
-use Rattle.std.proofs.Common.{◌∙◌, ap, cond, List, ℕ, None}
-use Rattle.std.specs.Prelude.{slice_get}
+use Rattle.std.proofs.Common.{◌∙◌}
 use Rattle.dr_log.proofs.Copying.{page_left, none_left}
 use Rattle.dr_log.proofs.rounds.next_to_copy.Goals as goal
 

@@ -17,7 +17,7 @@ invariant_of-self-in-Done g c =
       opens_is = c.opens_at-opens.ensures ∙ ap (λ (h : Guest). opens_at h c.self.inside.stopped c.in_ok-due.due) c.guest.ensures.is;
       sends = c.put_record.ensures;
     } in
-    subst (λ (stop : Bool). BenchKeeps guest g.N.Name.ports g.N.Name.faults (bench_of n c.put_record.new.sender c.self.inside.failed) × IsTracked n.past c.put_record.new.sender.pages stop) (sym c.stopped_after-self-inside.ensures)
+    subst (λ (stop : Bool). BenchKeeps guest g.N.Name.ports g.N.Name.faults (bench_of n c.put_record.new.sender c.self.inside.failed) × IsTracked guest n.past c.put_record.new.sender.records stop) (sym c.stopped_after-self-inside.ensures)
     (keeps_advance guest g.N.Name.ports g.N.Name.faults c.args.now m n c.self.inside.sender c.put_record.new.sender c.self.inside.failed c.self.inside.stopped c.in_ok-due.due c.opens_at-opens.result c.put_record.result c.self.invariant fine c.in-Done.is due)
 
 pub invariant_of-self-in-Failed : goal.invariant_of-self-in-Failed
@@ -33,5 +33,5 @@ invariant_of-self-in-Failed g c =
       sends = c.put_record.ensures;
     } in
     let o = c.give_up.new.self in
-    subst (λ (stop : Bool). BenchKeeps guest g.N.Name.ports g.N.Name.faults (bench_of o c.put_record.new.sender true) × IsTracked o.past c.put_record.new.sender.pages stop) (sym c.stopped_after-self-inside.ensures)
+    subst (λ (stop : Bool). BenchKeeps guest g.N.Name.ports g.N.Name.faults (bench_of o c.put_record.new.sender true) × IsTracked guest o.past c.put_record.new.sender.records stop) (sym c.stopped_after-self-inside.ensures)
     (keeps_failed guest g.N.Name.ports g.N.Name.faults c.args.now m n o c.self.inside.sender c.put_record.new.sender c.self.inside.failed c.self.inside.stopped c.in_ok-due.due c.opens_at-opens.result c.put_record.result c.self.invariant fine c.in-Failed.is due c.give_up.ensures)

@@ -1,8 +1,6 @@
-use Rattle.std.proofs.Common.{◌≤◌, ◌<◌, ◌∙◌, ap, sym, subst, arith}
-use Rattle.dr_types.specs.Scripts.{vcpu_count}
+use Rattle.std.proofs.Common.{◌≤◌, arith}
 use Rattle.dr_history.specs.Execution.{ops}
 use Rattle.dr_turns_law.proofs.Starting.{few_ops}
-use Rattle.dr_log.specs.Views.{LogView}
 use Rattle.dr_log.proofs.log.Log.next_number.Goals as goal
 
 pub overflow_cast-result : goal.overflow_cast-result
