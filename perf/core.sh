@@ -21,7 +21,7 @@ check() {
     done
     at_least 200 'flushes'
     at_least 1 'permissions filled'
-    at_least 1 'ranges deposited behind a later one'
+    at_least 1 'ranges deposited after a later one'
     at_least 1 'throttles with a sleep'
 }
 # So many events shared by so many guests: each line but the first has the ratio to the times of half the events.

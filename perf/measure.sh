@@ -7,7 +7,7 @@ fail() {
     echo "perf/$script: $*" >&2
     exit 1
 }
-# The count that the last run printed behind a name.
+# The count that the last run printed after a name.
 count() {
     sed -n "s/^$1: //p" "$folder/counts"
 }

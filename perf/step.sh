@@ -30,7 +30,7 @@ fail() {
     echo "perf/step.sh: $*" >&2
     exit 1
 }
-# 8 vCPUs that paint the pages, each its own 2,048, and are paced by it. Behind the start each stores eight
+# 8 vCPUs that paint the pages, each its own 2,048, and are paced by it. After the start each stores eight
 # bytes in 500 of its pages, and leaves the guest twice with a full ring. So 16,384 pages are copied in the
 # first round and 4,000 in the second.
 large_guest() {

@@ -24,7 +24,7 @@ use Rattle.dr_io.specs.declared.outlet.PutTurn.TheVariants.{Done, Failed}
 use Rattle.dr_machine.specs.Views.{MachineView}
 use Rattle.dr_turns_law.proofs.Cases.{IsWait, CopyDue, advanced_cases}
 use Rattle.dr_stream.specs.Sending.{Sending, Sends}
-use Rattle.dr_turns.specs.Due.{advanced, throttled_behind, answered_behind, zeros_to_copy, copies_from, round_of}
+use Rattle.dr_turns.specs.Due.{advanced, throttled_after, answered_after, zeros_to_copy, copies_from, round_of}
 use Rattle.dr_turns.specs.declared.answers.Advance.{Advance}
 use Rattle.dr_turns.specs.declared.answers.Advance.TheVariants as advance
 use Rattle.dr_bench.specs.Bench.{BenchKeeps, HaveZerosEnded, IsTracked, IsQuiet, bench_of}
@@ -57,13 +57,13 @@ answer_quiet guest past mid new r n adds quiet = record {
   stop = quiet.stop ∙ adds.stop;
 }
 
-quiet_throttled : (guest : Guest) (n : ℕ) (past : List Event) → IsQuiet guest past (throttled_behind guest n past)
+quiet_throttled : (guest : Guest) (n : ℕ) (past : List Event) → IsQuiet guest past (throttled_after guest n past)
 quiet_throttled guest zero past = quiet_still guest past
 quiet_throttled guest (suc n) past =
-    quiet_then guest past (throttled_behind guest n past) (throttled_behind guest (suc n) past) (quiet_throttled guest n past)
-    (quiet_silent guest (throttled_behind guest n past) (Throttled n (throttle guest n (throttled_behind guest n past)).us) tt)
+    quiet_then guest past (throttled_after guest n past) (throttled_after guest (suc n) past) (quiet_throttled guest n past)
+    (quiet_silent guest (throttled_after guest n past) (Throttled n (throttle guest n (throttled_after guest n past)).us) tt)
 
-throttled_case : (test : Bool) (guest : Guest) (n : ℕ) (past : List Event) → IsQuiet guest past (cond test (throttled_behind guest n past) past)
+throttled_case : (test : Bool) (guest : Guest) (n : ℕ) (past : List Event) → IsQuiet guest past (cond test (throttled_after guest n past) past)
 throttled_case true guest n past = quiet_throttled guest n past
 throttled_case false guest n past = quiet_still guest past
 
@@ -71,11 +71,11 @@ round_put : (opens : Bool) (r : ℕ) (parts : List Part) → cond opens (Round r
 round_put true r parts = refl
 round_put false r parts = refl
 
-adds_answer : (guest : Guest) (r now : ℕ) (past : List Event) → AdvanceAdds guest past (advance.Answered r (length (dirty_pages guest past))) (answered_behind guest r now past)
+adds_answer : (guest : Guest) (r now : ℕ) (past : List Event) → AdvanceAdds guest past (advance.Answered r (length (dirty_pages guest past))) (answered_after guest r now past)
 adds_answer guest r now past =
     let answer : List Event = Synced r now (dirty_pages guest past) ∷ past in
     let opens : Bool = opens_round guest (Synced r now (dirty_pages guest past)) past in
-    answer_quiet guest past answer (answered_behind guest r now past) r (length (dirty_pages guest past))
+    answer_quiet guest past answer (answered_after guest r now past) r (length (dirty_pages guest past))
     (record { parts = round_put opens r (parts_of guest past); records = round_unsent opens r (parts_of guest past); ended = λ page next zero. refl; stop = refl })
     (throttled_case (nat_le 1 guest.settings.quota && not (stopped past)) guest (vcpu_count guest) answer)
 

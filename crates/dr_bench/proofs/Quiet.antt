@@ -12,7 +12,7 @@ use Rattle.dr_history.specs.Vcpus.{in_guest, stopped}
 use Rattle.dr_history_law.specs.Room.{unpushed}
 use Rattle.dr_machine.specs.Views.{MachineView}
 use Rattle.dr_turns_law.specs.Deposits.{next_deposited}
-use Rattle.dr_turns.specs.Buffers.{pushed_behind, all_pushed}
+use Rattle.dr_turns.specs.Buffers.{pushed_after, all_pushed}
 use Rattle.dr_turns.specs.Due.{some_closing, round_of}
 use Rattle.dr_turns.specs.Turns.{refusal, executed, after_op, exit_reason, after_exit}
 use Rattle.dr_turns.specs.declared.answers.Turn.{Turn}
@@ -78,10 +78,10 @@ quiet_executed guest past v =
     (λ e page is. quiet_more guest past (Filled v page ∷ past) e (quiet_silent guest past (Filled v page) tt) (op_silent e v is))
     (λ e page is. quiet_more guest past (Opened v (opens v past) page ∷ past) e (quiet_silent guest past (Opened v (opens v past) page) tt) (op_silent e v is))
 
-quiet_pushed : (guest : Guest) (v n : ℕ) (past : List Event) → IsQuiet guest past (pushed_behind v n past)
+quiet_pushed : (guest : Guest) (v n : ℕ) (past : List Event) → IsQuiet guest past (pushed_after v n past)
 quiet_pushed guest v zero past = quiet_still guest past
 quiet_pushed guest v (suc n) past =
-    quiet_more guest past (pushed_behind v n past) (Pushed v (pushes v (pushed_behind v n past))) (quiet_pushed guest v n past) tt
+    quiet_more guest past (pushed_after v n past) (Pushed v (pushes v (pushed_after v n past))) (quiet_pushed guest v n past) tt
 
 full_case : (full : Bool) (guest : Guest) (v : ℕ) (past : List Event) → IsQuiet guest past (cond full (all_pushed v past) past)
 full_case true guest v past = quiet_pushed guest v (unpushed v past) past

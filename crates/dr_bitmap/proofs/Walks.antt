@@ -6,7 +6,7 @@ use Rattle.std.proofs.lemmas.List.{append-nil}
 use Rattle.dr_bitmap.specs.Members.{members, least_from}
 use Rattle.dr_bitmap.proofs.Leasts.{all_from, all_here, all_later, least_here, least_later, least_past}
 
--- q is the first member from p on: those from p on are q, and those behind it
+-- q is the first member from p on: those from p on are q, and those after it
 pub record IsNext (p q : ℕ) (flags : List Bool) : Type 0 where
   pub least : p ≤ q
   pub within : q < length flags

@@ -101,8 +101,8 @@ cut_at_once size seen cs = record {
 }
 
 -- batches were made, and the next was not begun
-pub cut_behind : (size u : ℕ) (seen : List NoteView) (old new : List Collected) (bs : List BatchView) → AreBatches size u seen old new bs → IsCutOff size seen old new
-cut_behind size u seen old new bs are = record {
+pub cut_after : (size u : ℕ) (seen : List NoteView) (old new : List Collected) (bs : List BatchView) → AreBatches size u seen old new bs → IsCutOff size seen old new
+cut_after size u seen old new bs are = record {
   refused = u;
   lost = λ v lt.
       let count : length bs ≡ u = are.count in

@@ -1,6 +1,6 @@
 use std::alloc::{AllocError, Global};
 
-/// A guest that writes a byte in each of its twelve pages, behind thirteen adds, in rings of 8.
+/// A guest that writes a byte in each of its twelve pages, after thirteen adds, in rings of 8.
 pub const IN_EIGHT: &str = "dirtyguest 1
 ring 8
 ";
@@ -10,7 +10,7 @@ pub const IN_SIXTEEN: &str = "dirtyguest 1
 ring 16
 ";
 
-/// What stands behind the size of the rings.
+/// What stands after the size of the rings.
 pub const TWELVE_PAGES: &str = "reserve 2
 buffer 1
 pace 13
@@ -68,7 +68,7 @@ vcpu
 a 0
 ";
 
-/// The text of a guest, behind the size of its rings.
+/// The text of a guest, after the size of its rings.
 pub fn text_of(alloc: Global, size: &str, rest: &str) -> Result<String, AllocError> {
     let mut text = String::new(alloc);
     text.push_str(size)?;

@@ -33,9 +33,9 @@ const NOTHING: Count = Count {
     most: 0,
 };
 
-/// The count behind an event; `None` where it pushes or resets an entry that isn't the next, or
+/// The count after an event; `None` where it pushes or resets an entry that isn't the next, or
 /// resets one that isn't pushed.
-fn behind(so_far: Count, event: &Event) -> Option<Count> {
+fn after(so_far: Count, event: &Event) -> Option<Count> {
     match event {
         Event::Pushed { v: _, k } if *k == so_far.pushed => Some(Count {
             pushed: k.saturating_add(1),
@@ -65,11 +65,11 @@ fn behind(so_far: Count, event: &Event) -> Option<Count> {
 }
 
 /// So many entries of a guest of one vCPU are pushed and reset, each in rising order, and at least
-/// three deposits came one behind the other in falling order.
+/// three deposits came one after the other in falling order.
 pub fn all_reset(events: &[Event], entries: u64) -> bool {
     let mut so_far = NOTHING;
     for event in events {
-        match behind(so_far, event) {
+        match after(so_far, event) {
             Some(next) => so_far = next,
             None => return false,
         }

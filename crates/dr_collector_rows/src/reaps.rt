@@ -27,7 +27,7 @@ z 0 9
 flush
 ";
 
-/// Two writes of a page open one entry; behind its reset and a flush the third opens another.
+/// Two writes of a page open one entry; after its reset and a flush the third opens another.
 const ONCE_AND_AGAIN: &str = "start 7
 o 0 0 0
 w 0 1 0 01
@@ -41,7 +41,7 @@ w 0 3 0 03
 p 0 1
 ";
 
-/// What is harvested of vCPU 0 comes behind the batches, where there is any.
+/// What is harvested of vCPU 0 comes after the batches, where there is any.
 pub fn harvest<N: Name>(
     alloc: Global,
     collector: &mut Collector<N>,
@@ -109,7 +109,7 @@ fn writes<N: Name>(
     Ok(plain)
 }
 
-/// Behind the batch of the entries 5 to 9 none is reset, behind that of 0 to 4 all ten.
+/// After the batch of the entries 5 to 9 none is reset, after that of 0 to 4 all ten.
 fn resets_in_order<N: Name>(
     machine: &mut Machine<N>,
     rings: &Rings<N>,
@@ -166,7 +166,7 @@ fn reaps_one<N: Name>(
     Ok(deposited && reset && flushed)
 }
 
-/// A page that is written twice opens one entry, and behind its reset and a flush another.
+/// A page that is written twice opens one entry, and after its reset and a flush another.
 pub fn opens_again<N: Name>(
     alloc: Global,
     machine: &mut Machine<N>,

@@ -35,7 +35,7 @@ fn resets_rise(rt: HostRuntime) -> Result<(), Fail> {
     Ok(())
 }
 
-/// Behind a reset and a flush a page is opened again.
+/// After a reset and a flush a page is opened again.
 #[test]
 fn a_page_is_opened_again(rt: HostRuntime) -> Result<(), Fail> {
     let text = text_of(rt.alloc(), IN_EIGHT, ONE_PAGE)?;

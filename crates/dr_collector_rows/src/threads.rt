@@ -66,7 +66,7 @@ fn deposit_all<N: Name>(
     all
 }
 
-/// One thread resets and pushes, the other harvests. What is left to harvest comes behind; three
+/// One thread resets and pushes, the other harvests. What is left to harvest comes after; three
 /// batches are deposited, the last of them first.
 fn round<N: Name, R: Threads>(
     rt: &R,

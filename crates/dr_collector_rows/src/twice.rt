@@ -112,7 +112,7 @@ fn once_only<N: Name>(
     Ok(taken && refused)
 }
 
-/// Behind thirteen plain ops, the start and five writes a batch is deposited once.
+/// After thirteen plain ops, the start and five writes a batch is deposited once.
 pub fn deposits_once<N: Name>(
     alloc: Global,
     machine: &mut Machine<N>,

@@ -4,7 +4,7 @@ use Rattle.std.proofs.lemmas.List.{drop-map, length-map}
 use Rattle.dr_command.specs.declared.paths.Paths.{Paths}
 use Rattle.dr_command.specs.Words.{paths_from, with_option}
 
--- the next word, and those behind it
+-- the next word, and those after it
 drop_next : {A B : Type 0} (f : A → B) (xs : List A) (at : ℕ) (x : A) → at < length xs → x ≡ get_or xs at x → drop at (map f xs) ≡ f x ∷ drop (at + 1) (map f xs)
 drop_next f xs at x lt is =
     drop-map f at xs ∙ ap (map f) (drop-cons xs at x lt) ∙ ap (λ y. f y ∷ map f (drop (suc at) xs)) (sym is)
@@ -22,7 +22,7 @@ half_option f xs at paths last =
     let all : length (map f xs) ≡ length xs = length-map xs f in
     one_word (drop at (map f xs)) at paths (omega (arith, left, all, last))
 
--- no path can be behind a word that is no option
+-- no path can be after a word that is no option
 pub none_from : (ws : List (List ℕ)) (at : ℕ) → paths_from ws at None ≡ None
 none_from [] at = refl
 none_from (w ∷ ws) at = refl

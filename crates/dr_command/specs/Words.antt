@@ -46,7 +46,7 @@ abbrev pub with_option : Paths → List ℕ → List ℕ → ℕ → Option Path
 with_option paths name [] at = None
 with_option paths name (byte ∷ path) at = with_named paths name at
 
--- the paths that these words say, of which the first stands at this place, behind the paths said
+-- the paths that these words say, of which the first stands at this place, after the paths said
 -- before
 abbrev pub paths_from : List (List ℕ) → ℕ → Option Paths → Option Paths
 paths_from words at None = None

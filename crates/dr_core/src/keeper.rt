@@ -74,7 +74,7 @@ impl Core {
         }
     }
 
-    /// Takes an event that breaks no rule behind those before it. An `Err` changes nothing: it
+    /// Takes an event that breaks no rule after those before it. An `Err` changes nothing: it
     /// names the least rule that the event breaks, or comes for want of memory.
     #[tactic(auto, using(crate::proofs::Unbroken::follows))]
     pub fn step(&mut self, e: Event) -> Result<(), CoreFault>

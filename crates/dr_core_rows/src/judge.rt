@@ -32,7 +32,7 @@ fn verdict_of(alloc: Global, core: &mut Core, parts: &[&[EventRow]]) -> Result<V
     }
 }
 
-/// The verdict on a guest's steps, one part behind the other, up to the first that is refused.
+/// The verdict on a guest's steps, one part after the other, up to the first that is refused.
 pub fn judged(alloc: Global, guest: &Guest, parts: &[&[EventRow]]) -> Result<Verdict, Memory>
     requires { IsValid guest.now }
 {

@@ -54,7 +54,7 @@ abbrev pub starts_before : ℕ → ℕ → Option (ℕ × ℕ) → Bool
 starts_before v from None = false
 starts_before v from (Some other) = other.0 == v && nat_lt from other.1
 
--- a Deposited behind that of a later range of its vCPU
+-- a Deposited after that of a later range of its vCPU
 abbrev pub is_out_of_order : Option (ℕ × ℕ) → Event → Bool
 is_out_of_order last (Deposited v from to) = starts_before v from last
 is_out_of_order last e = false
@@ -63,7 +63,7 @@ is_out_of_order last e = false
 abbrev pub one_more : Bool → ℕ → ℕ
 one_more passed n = if passed then n + 1 else n
 
--- how many ranges were deposited directly behind a later one
+-- how many ranges were deposited directly after a later one
 abbrev pub out_of_order : List Event → ℕ
 out_of_order [] = 0
 out_of_order (e ∷ earlier) =
@@ -87,7 +87,7 @@ tally_of past = record {
   sleep = count is_sleep past;
 }
 
--- the counts with one more event behind a last deposit
+-- the counts with one more event after a last deposit
 abbrev pub counted : Option (ℕ × ℕ) → Event → Tally → Tally
 counted last e t = record {
   opened = one_more (is_opened e) t.opened;

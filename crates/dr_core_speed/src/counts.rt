@@ -58,11 +58,7 @@ fn print_vcpus(rt: &impl Print, kinds: &Tally) -> io::Result<()> {
 /// Prints what the migrator did.
 fn print_migrator(rt: &impl Print, kinds: &Tally) -> io::Result<()> {
     print_count(rt, "ranges deposited", kinds.deposited)?;
-    print_count(
-        rt,
-        "ranges deposited behind a later one",
-        kinds.out_of_order,
-    )?;
+    print_count(rt, "ranges deposited after a later one", kinds.out_of_order)?;
     print_count(rt, "entries reset", kinds.reset)?;
     print_count(rt, "flushes", kinds.flushed)?;
     print_count(rt, "rounds answered", kinds.synced)?;

@@ -14,7 +14,7 @@ pub enum RunFault {
     /// The input is no request, or one of too many events or guests.
     #[error("expected one line: a number of events, or that, a space and a number of guests")]
     Request,
-    /// An event, counted from 0 in its history, is refused, or the end behind so many events.
+    /// An event, counted from 0 in its history, is refused, or the end after so many events.
     #[error("event {event} breaks rule {rule}")]
     Refused { event: u64, rule: u32 },
     #[error("the sample guest is refused: {why}")]

@@ -7,7 +7,7 @@ ghost use Rattle.dr_core_speed.specs.Tallies.{starts_before, IsSmall};
 use dr_history::Event;
 
 /// How many events there are of each kind that matters. `out_of_order` are the Deposited
-/// directly behind that of a later range of the same vCPU, `sleep` the Throttled of some time.
+/// directly after that of a later range of the same vCPU, `sleep` the Throttled of some time.
 #[derive(Clone, Copy)]
 pub struct Tally {
     pub opened: u64,

@@ -39,7 +39,7 @@ pub unowed : (b : Bool) (o : Option ℕ) → o ≡ None → not (is_some (cond b
 unowed true o h = rw h refl
 unowed false o h = refl
 
--- no throttle is due behind an Opened or a Filled
+-- no throttle is due after an Opened or a Filled
 pub due_opened : (guest : Guest) (past : List Event) (v k page : ℕ) → throttle_due guest (Opened v k page ∷ past) ≡ None
 due_opened guest past v k page = no_due (nat_le 1 guest.settings.quota && not (stopped past)) None refl
 

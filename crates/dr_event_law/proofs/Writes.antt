@@ -1,4 +1,4 @@
--- A write breaks no rule where it may come, alone or behind its Filled or Opened.
+-- A write breaks no rule where it may come, alone or after its Filled or Opened.
 use Rattle.std.proofs.Common.{◌≡◌, ℕ, ◌<◌, max, Bool, true, false, List, ◌∷◌, Option, Some, None, refl, ap, ◌∙◌}
 use Rattle.std.specs.Prelude.{not, ◌&&◌, ◌||◌, ◌==◌}
 use Rattle.std.proofs.lemmas.Bool.{and_parts, eqb-true, eq-eqb, false≢true}
@@ -43,7 +43,7 @@ or_true false = refl
 granted : (s : Bool) (v page : ℕ) (rest : Bool) → (not s || ((v == v && page == page) || rest)) ≡ true
 granted s v page rest = ap (λ b. not s || ((b && page == page) || rest)) (eq-eqb v v refl) ∙ ap (λ b. not s || (b || rest)) (eq-eqb page page refl) ∙ or_true (not s)
 
--- a write behind its Filled
+-- a write after its Filled
 pub writes_filled : (guest : Guest) (past : List Event) (v page : ℕ) (e : Event) → MayRun guest past v → unpushed v past < max 1 guest.settings.buffer → WritesNext guest past v page e → MayFollow guest (Filled v page ∷ past) e
 unfolding write_follows names_exist
 writes_filled guest past v page (Write w i address len value) run few m =
@@ -54,7 +54,7 @@ writes_filled guest past v page (Paint w i q byte) run few m =
     write_legal guest (Filled v page ∷ past) v page (Paint w i q byte) r m.writes (record { is_of = m.is_of; names = m.names; next = m.next; writes = m.writes }) (granted (started past) v page (cached v page past))
 writes_filled guest past v page e run few m = absurd (false≢true m.writes)
 
--- a write behind its Opened
+-- a write after its Opened
 pub writes_opened : (guest : Guest) (past : List Event) (v k page : ℕ) (e : Event) → MayRun guest past v → unpushed v past < max 1 guest.settings.buffer → WritesNext guest past v page e → MayFollow guest (Opened v k page ∷ past) e
 unfolding write_follows names_exist
 writes_opened guest past v k page (Write w i address len value) run few m =

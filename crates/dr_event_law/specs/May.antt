@@ -25,7 +25,7 @@ use Rattle.dr_history.specs.Execution.{is_next_op}
 use Rattle.dr_history.specs.declared.event.Event.TheVariants.{Opened, Filled, Synced, Throttled}
 use Rattle.dr_history.specs.declared.event.Event.TheVariants.{Switched}
 
--- the event breaks no rule behind these
+-- the event breaks no rule after these
 pub record MayFollow (guest : Guest) (past : List Event) (e : Event) : Type 0 where
   pub kept : broken guest past e ≡ None
 
@@ -34,7 +34,7 @@ pub record AtRest (guest : Guest) (past : List Event) : Type 0 where
   pub rests : may_end guest past ≡ true
   pub here : list_any is_switched past ≡ false
 
--- what each operation of a vCPU needs, behind whatever event
+-- what each operation of a vCPU needs, after whatever event
 pub record MayRun (guest : Guest) (past : List Event) (v : ℕ) : Type 0 where
   pub vcpu : v < vcpu_count guest
   pub here : list_any is_switched past ≡ false
@@ -117,7 +117,7 @@ pub record MayAsk (guest : Guest) (past : List Event) : Type 0 where
 abbrev pub Ends : Guest → Type 0
 Ends guest = (v i : ℕ) → i + 1 ≡ script_length guest v → operation guest v i ≡ Some op.Halt
 
--- no write and no throttle is owed behind the event
+-- no write and no throttle is owed after the event
 abbrev pub IsSettled : Event → Type 0
 IsSettled (Opened v k page) = ⊥
 IsSettled (Filled v page) = ⊥

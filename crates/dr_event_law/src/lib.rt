@@ -50,14 +50,14 @@ pub fn may_write()
         → (not (started past) || cached v page past) ≡ true → MayFollow guest past e }
 {}
 
-/// A write comes behind its Filled.
+/// A write comes after its Filled.
 pub fn may_write_filled()
     ensures { (guest : Guest) (past : List Event) (v page : ℕ) (e : Event) → MayRun guest past v
         → unpushed v past < max 1 guest.settings.buffer → WritesNext guest past v page e
         → MayFollow guest (Filled v page ∷ past) e }
 {}
 
-/// A write comes behind its Opened.
+/// A write comes after its Opened.
 pub fn may_write_opened()
     ensures { (guest : Guest) (past : List Event) (v k page : ℕ) (e : Event) → MayRun guest past v
         → unpushed v past < max 1 guest.settings.buffer → WritesNext guest past v page e
@@ -167,8 +167,8 @@ pub fn may_execute_quietly()
         → MayFollow guest past (op_event guest v past o) }
 {}
 
-/// Behind an event that owes nothing the history is at rest.
-pub fn settles_behind()
+/// After an event that owes nothing the history is at rest.
+pub fn settles_after()
     ensures { (guest : Guest) (past : List Event) (e : Event) → IsSettled e
         → list_any is_switched past ≡ false → AtRest guest (e ∷ past) }
 {}

@@ -59,7 +59,7 @@ pub fn quoted(alloc: Global, bytes: &[u8]) -> Result<String, Memory> {
     }
 }
 
-/// Adds a word behind a space, unless it is empty.
+/// Adds a word after a space, unless it is empty.
 fn push_word(line: &mut Vec<u8>, word: &[u8]) -> Result<(), Memory> {
     if !word.is_empty() {
         line.push(b' ')?;

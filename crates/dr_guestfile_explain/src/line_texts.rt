@@ -85,7 +85,7 @@ fn in_script(alloc: Global, found: &Found<'_>) -> Result<Text, Memory> {
     }
 }
 
-/// An `end` that may not stand: with words behind it, or in an empty `rep`.
+/// An `end` that may not stand: with words after it, or in an empty `rep`.
 fn at_end(alloc: Global, rep: u64, found: &Found<'_>) -> Result<Text, Memory> {
     if !found.second.is_empty() {
         return expected_form(alloc, Keyword::End, found);

@@ -82,7 +82,7 @@ fn some_word(alloc: Global, found: &Found<'_>) -> Result<Text, Memory> {
     Ok(Text::from_string(text))
 }
 
-/// The numbers of a slot line behind its ID.
+/// The numbers of a slot line after its ID.
 fn slot_text(alloc: Global, found: &Found<'_>) -> Result<Text, Memory> {
     let bases = numbers_from("a BASE", 0, FRAMES_END - 1);
     if is_unfit(bases, found.third) {

@@ -1,4 +1,4 @@
-//! What is said of each fault: its line, and the text behind it.
+//! What is said of each fault: its line, and the text after it.
 
 use dr_guestfile::read_guest;
 use dr_guestfile_explain::{Explained, explain};

@@ -9,7 +9,7 @@ use std::test::Fail;
 /// The frames 1 and 2, 3, the one at 4 GiB, and the last of all.
 const SLOTS: &str = "slot 0 1 2\nslot 5 3 1\nslot 3 1048576 1\nslot 9 4503599627370495 1\n";
 
-/// What stands before an op and behind it, and the number of its line.
+/// What stands before an op and after it, and the number of its line.
 const PLACES: &[(&str, &str, u64)] = &[
     ("vcpu\n", "halt\n", 14),
     ("vcpu\na 1\n# a\n\n", "w 0 01\nhalt\n", 17),
@@ -23,10 +23,10 @@ fn is_refused_between(
     alloc: Global,
     before: &str,
     op: &str,
-    behind: &str,
+    after: &str,
     fault: FileFault,
 ) -> bool {
-    match format!(in alloc; "{SETTINGS}{SLOTS}{before}{op}\n{behind}") {
+    match format!(in alloc; "{SETTINGS}{SLOTS}{before}{op}\n{after}") {
         Ok(text) => is_refused(alloc, &text, fault),
         Err(_) => false,
     }
@@ -34,8 +34,8 @@ fn is_refused_between(
 
 /// The op is refused at each place.
 fn is_refused_op(alloc: Global, op: &str, kind: Kind) -> bool {
-    for &(before, behind, no) in PLACES {
-        if !is_refused_between(alloc, before, op, behind, kind.at(no)) {
+    for &(before, after, no) in PLACES {
+        if !is_refused_between(alloc, before, op, after, kind.at(no)) {
             return false;
         }
     }
@@ -203,7 +203,7 @@ fn refuses_unmapped_ops(rt: HostRuntime) -> Result<(), Fail> {
     Ok(())
 }
 
-/// Ops whose bytes lie in two pages: both in one slot, in two, the second in none, and none behind.
+/// Ops whose bytes lie in two pages: both in one slot, in two, the second in none, and none after.
 const CROSS_ROWS: &[&str] = &[
     "w 8191 0102",
     "w 8185 0102030405060708",

@@ -142,25 +142,25 @@ fn long_section(
     alloc: Global,
     before: &str,
     lines: u64,
-    behind: &str,
+    after: &str,
 ) -> Result<String, AllocError> {
     let mut text = with_sections(alloc, before)?;
     for _ in 0..lines {
         text.push_str("a 0\n")?;
     }
-    text.push_str(behind)?;
+    text.push_str(after)?;
     Ok(text)
 }
 
 #[test]
 fn counts_lines(rt: HostRuntime) -> Result<(), Fail> {
-    // What stands before and behind so many lines `a 0`.
+    // What stands before and after so many lines `a 0`.
     let rows = [
         ("vcpu\nrep 199\n", 1_000, "end\na 1\nhalt\n"),
         ("vcpu\nrep 199000\na 1\nend\n", 999, "halt\n"),
     ];
-    for (before, lines, behind) in rows {
-        let text = long_section(rt.alloc(), before, lines, behind)?;
+    for (before, lines, after) in rows {
+        let text = long_section(rt.alloc(), before, lines, after)?;
         assert!(rt; stays(rt.alloc(), &text), "{lines} lines");
     }
     Ok(())
@@ -168,7 +168,7 @@ fn counts_lines(rt: HostRuntime) -> Result<(), Fail> {
 
 #[test]
 fn counts_each_line(rt: HostRuntime) -> Result<(), Fail> {
-    // What stands before and behind so many lines `a 0`, and the line that comes to the limit.
+    // What stands before and after so many lines `a 0`, and the line that comes to the limit.
     let rows = [
         ("vcpu\nrep 200\n", 1_000, "end\nhalt\n", 1_013),
         ("vcpu\nrep 200\n", 1_001, "end\nhalt\n", 1_013),
@@ -178,8 +178,8 @@ fn counts_each_line(rt: HostRuntime) -> Result<(), Fail> {
         // Line 11 is the first op.
         ("vcpu\n", 200_000, "halt\n", 200_011),
     ];
-    for (before, lines, behind, no) in rows {
-        let text = long_section(rt.alloc(), before, lines, behind)?;
+    for (before, lines, after, no) in rows {
+        let text = long_section(rt.alloc(), before, lines, after)?;
         let fault = Kind::TooLarge(What::Ops).at(no);
         assert!(rt; is_refused(rt.alloc(), &text, fault), "{lines} lines");
     }

@@ -37,7 +37,7 @@ const FAULT_ROWS: &[(&str, Kind, u64)] = &[
     ("vcpu\nhalt\nvcpu\n", Kind::Line, 13),
     ("vcpu\nhalt\nvcpu\na 1\n", Kind::Line, 14),
     ("vcpu\nhalt\nvcpu\nvcpu\nhalt\n", Kind::Line, 13),
-    // Behind a `halt`.
+    // After a `halt`.
     ("vcpu\nhalt\na 1\n", Kind::Line, 12),
     ("vcpu\nhalt\nw 0 01\n", Kind::Line, 12),
     ("vcpu\nhalt\nw 4096 0\n", Kind::Line, 12),
@@ -49,7 +49,7 @@ const FAULT_ROWS: &[(&str, Kind, u64)] = &[
     ("vcpu\nhalt\nvcpu 1\nhalt\n", Kind::Line, 12),
     ("vcpu\nhalt\nvcpu\nhalt\na 1\n", Kind::Line, 14),
     ("vcpu\nhalt\n\n# a\nx\n", Kind::Line, 14),
-    // `halt` has no word behind it.
+    // `halt` has no word after it.
     ("vcpu\nhalt 0\n", Kind::Line, 11),
     ("vcpu\nhalt halt\n", Kind::Line, 11),
     ("vcpu\nhalt # a\n", Kind::Line, 11),
@@ -150,7 +150,7 @@ fn reads_sections(rt: HostRuntime) -> Result<(), Fail> {
 }
 
 /// So many sections of `halt` alone, and then this. The 33rd begins on line 74.
-fn behind_sections(alloc: Global, sections: u32, rest: &str) -> Result<String, AllocError> {
+fn after_sections(alloc: Global, sections: u32, rest: &str) -> Result<String, AllocError> {
     let mut text = String::from_str(alloc, SETTINGS)?;
     text.push_str("slot 0 0 1\n")?;
     for _ in 0..sections {
@@ -173,10 +173,10 @@ fn limits_sections(rt: HostRuntime) -> Result<(), Fail> {
         (31, "vcpu\n", Kind::Line, 73),
     ];
     for (sections, rest, kind, no) in rows {
-        let text = behind_sections(rt.alloc(), sections, rest)?;
+        let text = after_sections(rt.alloc(), sections, rest)?;
         assert!(rt; is_refused(rt.alloc(), &text, kind.at(no)), "in {text}");
     }
-    let most = behind_sections(rt.alloc(), 31, "vcpu\na 1\nhalt\n")?;
+    let most = after_sections(rt.alloc(), 31, "vcpu\na 1\nhalt\n")?;
     assert!(rt; stays(rt.alloc(), &most), "32 sections");
     Ok(())
 }

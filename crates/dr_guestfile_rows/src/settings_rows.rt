@@ -56,8 +56,8 @@ fn with_twice(alloc: Global, no: u64) -> Result<String, AllocError> {
     Ok(text)
 }
 
-/// The first lines of the smallest guest, with this behind them.
-fn first_lines(alloc: Global, lines: u64, behind: &str) -> Result<String, AllocError> {
+/// The first lines of the smallest guest, with this after them.
+fn first_lines(alloc: Global, lines: u64, after: &str) -> Result<String, AllocError> {
     let mut text = String::new(alloc);
     for &(at, own) in LINES {
         if at <= lines {
@@ -65,7 +65,7 @@ fn first_lines(alloc: Global, lines: u64, behind: &str) -> Result<String, AllocE
             text.push_str("\n")?;
         }
     }
-    text.push_str(behind)?;
+    text.push_str(after)?;
     Ok(text)
 }
 
@@ -170,7 +170,7 @@ fn refuses_setting_lines(rt: HostRuntime) -> Result<(), Fail> {
 
 #[test]
 fn misses_lines(rt: HostRuntime) -> Result<(), Fail> {
-    // The line behind the one that is missing may not stand there.
+    // The line after the one that is missing may not stand there.
     for no in 2..12 {
         let text = without_line(rt.alloc(), no)?;
         assert!(rt;
@@ -196,9 +196,9 @@ fn doubles_lines(rt: HostRuntime) -> Result<(), Fail> {
     Ok(())
 }
 
-/// The smallest guest cut behind so many lines, with this behind them, is refused at this line.
-fn is_cut(alloc: Global, lines: u64, behind: &str, no: u64) -> bool {
-    match first_lines(alloc, lines, behind) {
+/// The smallest guest cut after so many lines, with this after them, is refused at this line.
+fn is_cut(alloc: Global, lines: u64, after: &str, no: u64) -> bool {
+    match first_lines(alloc, lines, after) {
         Ok(text) => is_refused(alloc, &text, FileFault::Line { no }),
         Err(_) => false,
     }
@@ -209,9 +209,9 @@ fn cuts_lines(rt: HostRuntime) -> Result<(), Fail> {
     // The fault has the number of lines plus 1.
     for lines in 1..11 {
         let at_once = is_cut(rt.alloc(), lines, "", lines + 1);
-        let comment = is_cut(rt.alloc(), lines, " # behind", lines + 2);
+        let comment = is_cut(rt.alloc(), lines, " # after", lines + 2);
         let empty = is_cut(rt.alloc(), lines, "\r\n\n \t\n", lines + 4);
-        assert!(rt; at_once && comment && empty, "behind {lines} lines");
+        assert!(rt; at_once && comment && empty, "after {lines} lines");
     }
     Ok(())
 }

@@ -269,8 +269,8 @@ fn limits_pages_before_copies(rt: HostRuntime) -> Result<(), Fail> {
     Ok(())
 }
 
-/// 32 slots of one page, and this line behind them, which is the 41st.
-fn behind_slots(alloc: Global, line: &str) -> Result<String, AllocError> {
+/// 32 slots of one page, and this line after them, which is the 41st.
+fn after_slots(alloc: Global, line: &str) -> Result<String, AllocError> {
     let mut text = String::from_str(alloc, SETTINGS)?;
     for id in 0..32_u64 {
         text.push_str(&format!(in alloc; "slot {id} {id} 1\n")?)?;
@@ -295,7 +295,7 @@ fn refuses_a_slot_too_many(rt: HostRuntime) -> Result<(), Fail> {
         ("slot x 64 1 1", Kind::Line),
     ];
     for (line, kind) in rows {
-        let text = behind_slots(rt.alloc(), line)?;
+        let text = after_slots(rt.alloc(), line)?;
         assert!(rt; is_refused(rt.alloc(), &text, kind.at(41)), "in {text}");
     }
     Ok(())

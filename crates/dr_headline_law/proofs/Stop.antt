@@ -13,7 +13,7 @@ use Rattle.dr_history_law.proofs.Kept.{switches_facts, unswitched}
 use Rattle.dr_history_law.proofs.Stop.{memory_stays}
 use Rattle.dr_headline_law.specs.Headline.{KeepsStoppedMemory}
 
--- a switch-over comes only behind a stop, and nothing comes behind it
+-- a switch-over comes only after a stop, and nothing comes after it
 switched_stopped : (guest : Guest) (past : List Event) → IsLegalSoFar guest past
     → list_any is_switched past ≡ true → stopped past ≡ true
 switched_stopped guest [] legal h = absurd (false≢true h)

@@ -11,12 +11,12 @@ use Rattle.dr_history.specs.Lines.{event_line}
 abbrev after_space : ℕ → List ℕ
 after_space n = 32 ∷ decimal n
 
--- numbers behind a first word, each behind a space
+-- numbers after a first word, each after a space
 joined : (word : List ℕ) (ns : List ℕ) → join_with_byte 32 (word ∷ map decimal ns) ≡ word ++ flat_map after_space ns
 joined word [] = sym (append-nil word)
 joined word (n ∷ ns) = ap (λ xs. word ++ (32 ∷ xs)) (joined (decimal n) ns) ∙ ap (λ xs. word ++ xs) (sym (flat_map-cons after_space n ns))
 
--- numbers behind four words
+-- numbers after four words
 joined_four : (a b c d : List ℕ) (ns : List ℕ)
     → join_with_byte 32 (a ∷ b ∷ c ∷ d ∷ map decimal ns) ≡ join_with_byte 32 (a ∷ b ∷ c ∷ d ∷ []) ++ flat_map after_space ns
 joined_four a b c d ns =

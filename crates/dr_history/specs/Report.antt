@@ -59,7 +59,7 @@ round_line r dirty copied at =
     line_text (codes "round" ∷ decimal r ∷ codes "dirty" ∷ decimal dirty
     ∷ codes "copied" ∷ decimal copied ∷ codes "at" ∷ decimal at ∷ [])
 
--- a vCPU's line of an answer, behind two spaces
+-- a vCPU's line of an answer, after two spaces
 unfoldable pub share_line : ℕ → ℕ → ℕ → ℕ → List ℕ
 share_line v entries rate us =
     32 ∷ 32 ∷ line_text (codes "vcpu" ∷ decimal v ∷ codes "entries" ∷ decimal entries

@@ -22,7 +22,7 @@ fn why_word(why: Why) -> &'static str
     }
 }
 
-/// Adds each page behind a space.
+/// Adds each page after a space.
 fn push_pages(text: &mut String, pages: &[u32]) -> Result<(), Memory>
     ensures { OnOk result (string_bytes text.new
         ≡ string_bytes text.old ++ flat_map (λ page. 32 ∷ decimal page) pages.now) }

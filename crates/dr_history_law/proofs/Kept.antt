@@ -106,7 +106,7 @@ pub op_next : (guest : Guest) (past : List Event) (e : Event) → broken guest p
 unfolding follows_script
 op_next guest past e h = (keeps guest past e h).follows_script_holds
 
--- behind an Opened comes a write of its vCPU into its page
+-- after an Opened comes a write of its vCPU into its page
 pub opened_written : (guest : Guest) (past : List Event) (v k page : ℕ) (e : Event) → broken guest (Opened v k page ∷ past) e ≡ None → writes_page guest v page e ≡ true
 unfolding write_follows
 opened_written guest past v k page e h = (keeps guest (Opened v k page ∷ past) e h).write_follows_holds
@@ -116,7 +116,7 @@ write_runs guest past v page (Write w i address len value) h t = (op_facts guest
 write_runs guest past v page (Paint w i q byte) h t = (op_facts guest past (Paint w i q byte) w h refl).running
 write_runs guest past v page e h t = absurd (false≢true t)
 
--- no event comes behind an Opened that comes after Stopped
+-- no event comes after an Opened that comes after Stopped
 pub opened_ends : (guest : Guest) (past : List Event) (e : Event) → broken guest past e ≡ None → stopped past ≡ true → last_opens past ≡ false
 opened_ends guest [] e h s = refl
 opened_ends guest (Opened v k page ∷ past) e h s =

@@ -31,7 +31,7 @@ page_write guest v page (Write w i address len value) h = (and_parts (w == v) _ 
 page_write guest v page (Paint w i q byte) h = (and_parts (w == v) (q == page) h).0
 page_write guest v page e h = absurd (false≢true h)
 
--- behind an Opened of the vCPU comes a write of it
+-- after an Opened of the vCPU comes a write of it
 pub owed : (guest : Guest) (past : List Event) (v : ℕ) (e : Event) → broken guest past e ≡ None → last_opens_for v past ≡ true → is_write_of v e ≡ true
 owed guest [] v e h o = absurd (false≢true o)
 owed guest (Opened w k q ∷ past) v e h o =

@@ -14,7 +14,7 @@ unpushed v past = opens v past - pushes v past
 abbrev pub room : Guest → ℕ
 room guest = soft_limit guest - 1 + max 1 guest.settings.buffer
 
--- but directly behind an Opened, the entries used and those unpushed are no more than the room
+-- but directly after an Opened, the entries used and those unpushed are no more than the room
 abbrev pub StaysInRoom : Guest → List Event → Type 0
 StaysInRoom guest past =
     (v : ℕ) → last_opens_for v past ≡ false → used v past + unpushed v past ≤ room guest

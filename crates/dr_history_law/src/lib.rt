@@ -153,7 +153,7 @@ pub fn stays_in_script()
         → StaysInScript guest past }
 {}
 
-/// But directly behind an Opened, the entries used and those unpushed are no more than the room.
+/// But directly after an Opened, the entries used and those unpushed are no more than the room.
 pub fn stays_in_room()
     ensures { (guest : Guest) (past : List Event) → IsLegalSoFar guest past
         → StaysInRoom guest past }

@@ -45,7 +45,7 @@ bytes_of Stream b = b.stream
 bytes_of Image b = b.image
 bytes_of Journal b = b.journal
 
--- the book with these bytes behind a port's
+-- the book with these bytes after a port's
 abbrev pub with_added : Port → List ℕ → Book → Book
 with_added Report more b = record b { report = b.report ++ more }
 with_added Stream more b = record b { stream = b.stream ++ more }

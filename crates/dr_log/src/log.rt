@@ -71,7 +71,7 @@ impl Log {
         })
     }
 
-    /// Takes an event that breaks no rule behind those before it. It isn't judged. An `Err` changes
+    /// Takes an event that breaks no rule after those before it. It isn't judged. An `Err` changes
     /// nothing, and comes for want of memory alone.
     #[tactic(auto, using(dr_state::proofs::Valid::fits_state))]
     pub fn append(&mut self, e: Event) -> Result<(), Memory>

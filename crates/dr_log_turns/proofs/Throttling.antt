@@ -14,9 +14,9 @@ use Rattle.dr_history.specs.Rules.{vcpu_of_op}
 use Rattle.dr_history.specs.Throttles.{throttle}
 use Rattle.dr_history.specs.Vcpus.{stopped}
 use Rattle.dr_history_law.specs.Room.{unpushed}
-use Rattle.dr_turns.specs.Buffers.{pushed_behind, all_pushed}
+use Rattle.dr_turns.specs.Buffers.{pushed_after, all_pushed}
 use Rattle.dr_history.specs.Rounds.{last_synced}
-use Rattle.dr_turns.specs.Due.{advanced, throttled_behind, copies_from, round_of}
+use Rattle.dr_turns.specs.Due.{advanced, throttled_after, copies_from, round_of}
 use Rattle.dr_turns.specs.declared.answers.Advance.{Advance}
 use Rattle.dr_turns.specs.declared.answers.Advance.TheVariants as advance
 use Rattle.dr_turns_law.proofs.Cases.{IsWait, advanced_cases}
@@ -61,7 +61,7 @@ op_throttles_none : (e : Event) (v : ℕ) → vcpu_of_op e ≡ Some v → IsNoTh
 op_throttles_none (Throttled w us) v is = cc
 op_throttles_none e v is = tt
 
-pushes_throttle_none : (v n : ℕ) (past : List Event) → SameThrottles past (pushed_behind v n past)
+pushes_throttle_none : (v n : ℕ) (past : List Event) → SameThrottles past (pushed_after v n past)
 pushes_throttle_none v zero past = none_since past
 pushes_throttle_none v (suc n) past = record { each = (pushes_throttle_none v n past).each }
 
@@ -118,22 +118,22 @@ one_taken guest past n us throttles taken lt is = record {
 }
 
 -- a Throttled changes no throttle
-same_formula : (guest : Guest) (v n : ℕ) (past : List Event) → throttle guest v (throttled_behind guest n past) ≡ throttle guest v past
+same_formula : (guest : Guest) (v n : ℕ) (past : List Event) → throttle guest v (throttled_after guest n past) ≡ throttle guest v past
 same_formula guest v zero past = refl
 same_formula guest v (suc n) past = same_formula guest v n past
 
 -- the first n vCPUs were throttled, each by its formula
-last_of_first : (guest : Guest) (v n : ℕ) (past : List Event) → v < n → last_throttle v (throttled_behind guest n past) ≡ (throttle guest v past).us
+last_of_first : (guest : Guest) (v n : ℕ) (past : List Event) → v < n → last_throttle v (throttled_after guest n past) ≡ (throttle guest v past).us
 last_of_first guest v zero past lt = absurd (omega (arith, lt))
 last_of_first guest v (suc n) past lt =
     by_test (n == v) _
-    (λ yes. rw yes (subst (λ (k : ℕ). (throttle guest n (throttled_behind guest n past)).us ≡ (throttle guest k past).us) (eqb-true n v yes) (ap (λ t. t.us) (same_formula guest n n past))))
+    (λ yes. rw yes (subst (λ (k : ℕ). (throttle guest n (throttled_after guest n past)).us ≡ (throttle guest k past).us) (eqb-true n v yes) (ap (λ t. t.us) (same_formula guest n n past))))
     (λ other.
     let apart : n ≡ v → ⊥ = eqb-false n v other in
     let less : v < n = omega (arith, lt, apart) in
     rw other (last_of_first guest v n past less))
 
-stop_stays : (guest : Guest) (n : ℕ) (past : List Event) → stopped (throttled_behind guest n past) ≡ stopped past
+stop_stays : (guest : Guest) (n : ℕ) (past : List Event) → stopped (throttled_after guest n past) ≡ stopped past
 stop_stays guest zero past = refl
 stop_stays guest (suc n) past = stop_stays guest n past
 
@@ -163,10 +163,10 @@ wait_answers_none advance.Budget is = refl
 wait_answers_none a is = absurd is
 
 answer_case : (test : Bool) (guest : Guest) (old : List Event) (r n now : ℕ) → (nat_le 1 guest.settings.quota && not (stopped old)) ≡ test
-    → Leaves guest old (advance.Answered r n, cond test (throttled_behind guest (vcpu_count guest) (Synced r now (dirty_pages guest old) ∷ old)) (Synced r now (dirty_pages guest old) ∷ old))
+    → Leaves guest old (advance.Answered r n, cond test (throttled_after guest (vcpu_count guest) (Synced r now (dirty_pages guest old) ∷ old)) (Synced r now (dirty_pages guest old) ∷ old))
 answer_case true guest old r n now is =
     let answer : List Event = Synced r now (dirty_pages guest old) ∷ old in
-    let runs : (nat_le 1 guest.settings.quota && not (stopped (throttled_behind guest (vcpu_count guest) answer))) ≡ true =
+    let runs : (nat_le 1 guest.settings.quota && not (stopped (throttled_after guest (vcpu_count guest) answer))) ≡ true =
     ap (λ b. nat_le 1 guest.settings.quota && not b) (stop_stays guest (vcpu_count guest) answer) ∙ is in
     record {
       stay = λ h. absurd (true≢false (sym runs ∙ h));

@@ -5,8 +5,8 @@ ghost use Rattle.dr_history.specs.Dirty.{dirty_pages};
 ghost use Rattle.dr_history.specs.Rounds.{unanswered};
 ghost use Rattle.dr_history.specs.Vcpus.{stopped};
 ghost use Rattle.dr_turns.specs.Between.{AtTurnsEnd};
-ghost use Rattle.dr_turns.specs.Due.{answered, answered_behind, flushed_answer, some_closing};
-ghost use Rattle.dr_turns.specs.Due.{throttled_behind};
+ghost use Rattle.dr_turns.specs.Due.{answered, answered_after, flushed_answer, some_closing};
+ghost use Rattle.dr_turns.specs.Due.{throttled_after};
 ghost use Rattle.dr_turns.specs.Firsts.{first_kicked, first_unreset};
 ghost use Rattle.dr_log_turns.specs.Answered.{HasAnswered};
 
@@ -26,7 +26,7 @@ fn throttle_vcpus(log: &mut Log)
     requires events { vcpu_count log.old.guest ≤ log.old.room.events }
     ensures guest { log.new.guest ≡ log.old.guest }
     ensures past { let guest = log.old.guest in
-        log.new.past ≡ throttled_behind guest (vcpu_count guest) log.old.past }
+        log.new.past ≡ throttled_after guest (vcpu_count guest) log.old.past }
 {
     for v in 0..log.vcpus() {
         log.recall_legal();
@@ -35,7 +35,7 @@ fn throttle_vcpus(log: &mut Log)
     }
 }
 
-/// Takes the answer of a round, and behind it a throttle for each vCPU, where there is a quota and
+/// Takes the answer of a round, and after it a throttle for each vCPU, where there is a quota and
 /// the guest runs.
 fn take_answer(log: &mut Log, r: u32, now: u64, pages: PageList, copy: PageList)
     requires end { AtTurnsEnd log.old.guest log.old.past }
@@ -48,7 +48,7 @@ fn take_answer(log: &mut Log, r: u32, now: u64, pages: PageList, copy: PageList)
     requires small { All (λ page. page < 2 ^ 32) pages }
     requires events { 1 + vcpu_count log.old.guest ≤ log.old.room.events }
     ensures guest { log.new.guest ≡ log.old.guest }
-    ensures past { log.new.past ≡ answered_behind log.old.guest r now log.old.past }
+    ensures past { log.new.past ≡ answered_after log.old.guest r now log.old.past }
 {
     log.recall_legal();
     let throttled = log.guest().settings.quota >= 1 && !log.stopped();

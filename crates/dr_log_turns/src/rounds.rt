@@ -116,7 +116,7 @@ fn ask(log: &mut Log) -> Advance
     Advance::Asked { r }
 }
 
-/// After the stop the last round is asked, and behind its copies the guest switches over.
+/// After the stop the last round is asked, and after its copies the guest switches over.
 #[tactic(auto, using(crate::proofs::Used::for_go_on_stopped))]
 fn go_on_stopped(log: &mut Log) -> Advance
     requires end { AtTurnsEnd log.old.guest log.old.past }

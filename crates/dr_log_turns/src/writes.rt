@@ -11,7 +11,7 @@ ghost use Rattle.dr_event_law.specs.May.{WritesNext};
 ghost use Rattle.dr_event_law.specs.Operations.{op_page};
 ghost use Rattle.dr_log.specs.Room.{HasEntry, has_page};
 ghost use Rattle.dr_turns.specs.Between.{MayTurn};
-ghost use Rattle.dr_turns.specs.Turns.{event_behind, executed};
+ghost use Rattle.dr_turns.specs.Turns.{event_after, executed};
 
 use dr_history::Event;
 use dr_log::Log;
@@ -47,7 +47,7 @@ fn write_alone(log: &mut Log, v: u32, e: Event, page: u32)
     log.take(e);
 }
 
-/// A write to a writable page, behind the vCPU's permission.
+/// A write to a writable page, after the vCPU's permission.
 #[tactic(auto, using(crate::proofs::Used::for_write_filled))]
 fn write_filled(log: &mut Log, v: u32, e: Event, page: u32)
     requires turn { MayTurn log.old.guest log.old.past v }
@@ -66,7 +66,7 @@ fn write_filled(log: &mut Log, v: u32, e: Event, page: u32)
     log.take(e);
 }
 
-/// A write to a protected page, behind the entry that it opens.
+/// A write to a protected page, after the entry that it opens.
 #[tactic(auto, using(crate::proofs::Used::for_write_opened))]
 fn write_opened(log: &mut Log, v: u32, e: Event, page: u32)
     requires turn { MayTurn log.old.guest log.old.past v }
@@ -88,7 +88,7 @@ fn write_opened(log: &mut Log, v: u32, e: Event, page: u32)
     log.take(e);
 }
 
-/// A write, behind what its page needs.
+/// A write, after what its page needs.
 fn write(log: &mut Log, v: u32, e: Event, page: u32)
     requires turn { MayTurn log.old.guest log.old.past v }
     requires vcpu { v < vcpu_count log.old.guest }
@@ -99,7 +99,7 @@ fn write(log: &mut Log, v: u32, e: Event, page: u32)
     requires entry { HasEntry v log.old.room }
     requires room { has_page page log.old.room ≡ true }
     ensures guest { log.new.guest ≡ log.old.guest }
-    ensures past { log.new.past ≡ event_behind v e (Some page) log.old.past }
+    ensures past { log.new.past ≡ event_after v e (Some page) log.old.past }
     ensures events { log.old.room.events ≤ log.new.room.events + 2 }
 {
     let started = log.started();
@@ -114,7 +114,7 @@ fn write(log: &mut Log, v: u32, e: Event, page: u32)
     }
 }
 
-/// The vCPU executes its next op, behind what the page needs that it writes.
+/// The vCPU executes its next op, after what the page needs that it writes.
 #[tactic(auto, unfolding(dr_turns::specs::Turns::executed), using(crate::proofs::Used::for_op))]
 pub fn execute(log: &mut Log, v: u32, op: Op)
     requires turn { MayTurn log.old.guest log.old.past v }

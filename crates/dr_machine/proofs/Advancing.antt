@@ -13,7 +13,7 @@ use Rattle.dr_turns_law.specs.Advances.{IsAdvance}
 use Rattle.dr_turns_law.proofs.Whole.{by_advanced}
 use Rattle.dr_turns.specs.Due.{advanced}
 use Rattle.dr_machine.specs.Tied.{AreTied}
-use Rattle.dr_machine.proofs.Machines.{seats_behind}
+use Rattle.dr_machine.proofs.Machines.{seats_after}
 
 advance_aside : (e : Event) → IsAdvance e → IsAside e
 advance_aside (Start at) is = tt
@@ -29,7 +29,7 @@ seats_advanced : (guest : Guest) (now : ℕ) (past : List Event) (seats : List K
 seats_advanced guest now past seats are =
     by_advanced (λ (xs : List Event). IsLegalSoFar guest xs → AreSeats guest xs seats) guest now past
     (λ legal. are)
-    (λ e xs is on legal. seats_behind guest xs e seats (advance_aside e is) legal (on legal.1))
+    (λ e xs is on legal. seats_after guest xs e seats (advance_aside e is) legal (on legal.1))
 
 -- an advance changes no tie
 pub ties_advanced : (guest : Guest) (rings : List TableId) (slots : List SlotRow) (old new : log.LogView) (seats : List KernelView) (now : ℕ) → AreTied guest rings slots old seats → IsLegalSoFar new.guest new.past → new.guest ≡ guest → new.past ≡ (advanced guest now old.past).1 → AreTied guest rings slots new seats

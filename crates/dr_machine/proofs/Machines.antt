@@ -49,16 +49,16 @@ op_aside (Halted w i) v is = tt
 op_aside e v is = cc
 
 -- an event aside leaves the seats
-pub seats_behind : (guest : Guest) (past : List Event) (e : Event) (seats : List KernelView) → IsAside e → IsLegalSoFar guest (e ∷ past) → AreSeats guest past seats → AreSeats guest (e ∷ past) seats
-seats_behind guest past e seats aside legal are = seats_stay guest past e seats legal.1 (record { kept = legal.0 }) aside are
+pub seats_after : (guest : Guest) (past : List Event) (e : Event) (seats : List KernelView) → IsAside e → IsLegalSoFar guest (e ∷ past) → AreSeats guest past seats → AreSeats guest (e ∷ past) seats
+seats_after guest past e seats aside legal are = seats_stay guest past e seats legal.1 (record { kept = legal.0 }) aside are
 
 seats_executed : (guest : Guest) (past : List Event) (v : ℕ) (seats : List KernelView) → AreSeats guest past seats → IsLegalSoFar guest (executed guest v past) → AreSeats guest (executed guest v past) seats
 seats_executed guest past v seats are =
     by_executed (λ (xs : List Event). IsLegalSoFar guest xs → AreSeats guest xs seats) guest past v
     (λ none legal. are)
-    (λ e is legal. seats_behind guest past e seats (op_aside e v is) legal are)
-    (λ e page is legal. seats_behind guest (Filled v page ∷ past) e seats (op_aside e v is) legal (seats_behind guest past (Filled v page) seats tt legal.1 are))
-    (λ e page is legal. seats_behind guest (Opened v (opens v past) page ∷ past) e seats (op_aside e v is) legal (seats_behind guest past (Opened v (opens v past) page) seats tt legal.1 are))
+    (λ e is legal. seats_after guest past e seats (op_aside e v is) legal are)
+    (λ e page is legal. seats_after guest (Filled v page ∷ past) e seats (op_aside e v is) legal (seats_after guest past (Filled v page) seats tt legal.1 are))
+    (λ e page is legal. seats_after guest (Opened v (opens v past) page ∷ past) e seats (op_aside e v is) legal (seats_after guest past (Opened v (opens v past) page) seats tt legal.1 are))
 
 -- nor does what a vCPU executes
 pub ties_executed : (guest : Guest) (rings : List TableId) (slots : List SlotRow) (old new : log.LogView) (seats : List KernelView) (v : ℕ) → AreTied guest rings slots old seats → IsLegalSoFar new.guest new.past → new.guest ≡ guest → new.past ≡ executed guest v old.past → AreTied guest rings slots new seats

@@ -22,7 +22,7 @@ use Rattle.dr_ring_set.specs.Seated.{IfAt, MovesAt}
 use Rattle.dr_seat_law.specs.Entries.{entry}
 use Rattle.dr_seat_law.proofs.FirstEntries.{entry_of_page, few_pushes}
 use Rattle.dr_seat_law.proofs.Seating.{seats_push, seat_counts, seat_has_room}
-use Rattle.dr_turns.specs.Buffers.{pushed_behind}
+use Rattle.dr_turns.specs.Buffers.{pushed_after}
 use Rattle.dr_turns_law.proofs.Buffers.{own_pushes, next_follows}
 use Rattle.dr_machine.specs.Tied.{AreTied}
 
@@ -77,9 +77,9 @@ ties_push guest rings slots old new seats moved v k e tied number is moves same 
 }
 
 -- the next of a buffer may be pushed
-pub next_may_follow : (guest : Guest) (past : List Event) (v n : ℕ) → v < vcpu_count guest → IsValid guest → AtRest guest past → IsLegalSoFar guest (pushed_behind v n past) → n < unpushed v past → MayFollow guest (pushed_behind v n past) (Pushed v (pushes v (pushed_behind v n past)))
+pub next_may_follow : (guest : Guest) (past : List Event) (v n : ℕ) → v < vcpu_count guest → IsValid guest → AtRest guest past → IsLegalSoFar guest (pushed_after v n past) → n < unpushed v past → MayFollow guest (pushed_after v n past) (Pushed v (pushes v (pushed_after v n past)))
 next_may_follow guest past v n lt valid rest legal more =
-    next_follows guest past v n (pushes v (pushed_behind v n past)) lt valid rest legal more (own_pushes v n past)
+    next_follows guest past v n (pushes v (pushed_after v n past)) lt valid rest legal more (own_pushes v n past)
 
-pub one_more : (past : List Event) (v n : ℕ) → Pushed v (pushes v (pushed_behind v n past)) ∷ pushed_behind v n past ≡ pushed_behind v (n + 1) past
-one_more past v n = ap (λ m. pushed_behind v m past) (sym (add-one n))
+pub one_more : (past : List Event) (v n : ℕ) → Pushed v (pushes v (pushed_after v n past)) ∷ pushed_after v n past ≡ pushed_after v (n + 1) past
+one_more past v n = ap (λ m. pushed_after v m past) (sym (add-one n))

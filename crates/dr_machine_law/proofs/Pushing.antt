@@ -6,12 +6,12 @@ use Rattle.dr_history.specs.declared.event.Event.{Event}
 use Rattle.dr_history.specs.declared.event.Event.TheVariants.{Pushed}
 use Rattle.dr_history.specs.Entries.{pushes}
 use Rattle.dr_history_law.specs.Room.{unpushed}
-use Rattle.dr_turns.specs.Buffers.{pushed_behind, all_pushed, pushed_where_full}
+use Rattle.dr_turns.specs.Buffers.{pushed_after, all_pushed, pushed_where_full}
 
 -- what no Pushed ends holds after any number of them
-pub by_pushed : (P : List Event → Type 0) (v n : ℕ) (past : List Event) → ((k : ℕ) (xs : List Event) → P xs → P (Pushed v k ∷ xs)) → P past → P (pushed_behind v n past)
+pub by_pushed : (P : List Event → Type 0) (v n : ℕ) (past : List Event) → ((k : ℕ) (xs : List Event) → P xs → P (Pushed v k ∷ xs)) → P past → P (pushed_after v n past)
 by_pushed P v zero past stays h = h
-by_pushed P v (suc n) past stays h = stays (pushes v (pushed_behind v n past)) (pushed_behind v n past) (by_pushed P v n past stays h)
+by_pushed P v (suc n) past stays h = stays (pushes v (pushed_after v n past)) (pushed_after v n past) (by_pushed P v n past stays h)
 
 full_case : (P : List Event → Type 0) (full : Bool) (a b : List Event) → P a → P b → P (cond full a b)
 full_case P true a b x y = x

@@ -17,21 +17,21 @@ use Rattle.dr_history.specs.Lookback.{is_number}
 use Rattle.dr_history.specs.Memory.{page_bytes, page_after, filled, overwritten}
 use Rattle.dr_history.specs.Protection.{started, writable, cached}
 use Rattle.dr_event_law.specs.Operations.{op_event, op_page, page_or_zero, OpFits}
-use Rattle.dr_turns.specs.Turns.{event_behind, op_behind, executed, after_op}
+use Rattle.dr_turns.specs.Turns.{event_after, op_after, executed, after_op}
 use Rattle.dr_turns_law.proofs.Executing.{op_fits}
 use Rattle.dr_machine_law.specs.Turns.{page_of_op, next_page}
 use Rattle.dr_machine_law.proofs.Pushing.{by_full}
 
-behind_case : (guest : Guest) (page : ℕ) (alone writes : Bool) (a b c : List Event) (bytes : List ℕ) → page_bytes guest page a ≡ bytes → page_bytes guest page b ≡ bytes → page_bytes guest page c ≡ bytes → page_bytes guest page (cond alone a (cond writes b c)) ≡ bytes
-behind_case guest page true writes a b c bytes x y z = x
-behind_case guest page false true a b c bytes x y z = y
-behind_case guest page false false a b c bytes x y z = z
+after_case : (guest : Guest) (page : ℕ) (alone writes : Bool) (a b c : List Event) (bytes : List ℕ) → page_bytes guest page a ≡ bytes → page_bytes guest page b ≡ bytes → page_bytes guest page c ≡ bytes → page_bytes guest page (cond alone a (cond writes b c)) ≡ bytes
+after_case guest page true writes a b c bytes x y z = x
+after_case guest page false true a b c bytes x y z = y
+after_case guest page false false a b c bytes x y z = z
 
 -- of an op's event and what stands before it, the event alone writes
-pub event_bytes : (guest : Guest) (page v : ℕ) (e : Event) (place : Option ℕ) (past : List Event) → page_bytes guest page (event_behind v e place past) ≡ page_after guest page e (page_bytes guest page past)
+pub event_bytes : (guest : Guest) (page v : ℕ) (e : Event) (place : Option ℕ) (past : List Event) → page_bytes guest page (event_after v e place past) ≡ page_after guest page e (page_bytes guest page past)
 event_bytes guest page v e None past = refl
 event_bytes guest page v e (Some q) past =
-    behind_case guest page (not (started past) || cached v q past) (writable q past) (e ∷ past) (e ∷ Filled v q ∷ past) (e ∷ Opened v (opens v past) q ∷ past) (page_after guest page e (page_bytes guest page past))
+    after_case guest page (not (started past) || cached v q past) (writable q past) (e ∷ past) (e ∷ Filled v q ∷ past) (e ∷ Opened v (opens v past) q ∷ past) (page_after guest page e (page_bytes guest page past))
     refl refl refl
 
 another : (page : ℕ) (place : Option ℕ) → place ≢ Some page → is_number page place ≡ false
@@ -57,15 +57,15 @@ op_keeps guest page v past (op.A n) bytes fits ne = refl
 op_keeps guest page v past (op.Nap us) bytes fits ne = refl
 op_keeps guest page v past op.Halt bytes fits ne = refl
 
-behind_keeps : (guest : Guest) (page v : ℕ) (past : List Event) (next : Option Op) → ((o : Op) → next ≡ Some o → OpFits guest o) → page_of_op guest next ≢ Some page → page_bytes guest page (op_behind guest v next past) ≡ page_bytes guest page past
-behind_keeps guest page v past None fits ne = refl
-behind_keeps guest page v past (Some o) fits ne =
+after_keeps : (guest : Guest) (page v : ℕ) (past : List Event) (next : Option Op) → ((o : Op) → next ≡ Some o → OpFits guest o) → page_of_op guest next ≢ Some page → page_bytes guest page (op_after guest v next past) ≡ page_bytes guest page past
+after_keeps guest page v past None fits ne = refl
+after_keeps guest page v past (Some o) fits ne =
     event_bytes guest page v (op_event guest v past o) (op_page guest o) past ∙ op_keeps guest page v past o (page_bytes guest page past) (fits o refl) ne
 
 executed_keeps : (guest : Guest) (page v : ℕ) (past : List Event) → IsValid guest → next_page guest v past ≢ Some page → page_bytes guest page (executed guest v past) ≡ page_bytes guest page past
 unfolding executed
 executed_keeps guest page v past valid ne =
-    behind_keeps guest page v past (operation guest v (ops v past)) (λ o is. op_fits guest v (ops v past) o valid is) ne
+    after_keeps guest page v past (operation guest v (ops v past)) (λ o is. op_fits guest v (ops v past) o valid is) ne
 
 -- a vCPU's turn leaves the pages that its next op doesn't write
 pub bytes_after : (guest : Guest) (page v : ℕ) (past : List Event) → IsValid guest → next_page guest v past ≢ Some page → page_bytes guest page (after_op guest v past) ≡ page_bytes guest page past

@@ -8,7 +8,7 @@ use std::test::Fail;
 
 const PLAIN: Turn = Turn::Done(Step::Plain);
 
-/// A guest that writes a byte in each of its twelve pages, behind thirteen adds.
+/// A guest that writes a byte in each of its twelve pages, after thirteen adds.
 const TWELVE_PAGES: &str = "dirtyguest 1
 ring 8
 reserve 2

@@ -19,7 +19,7 @@ use Rattle.dr_bench.specs.declared.bench.BenchFault.TheVariants as fault
 use Rattle.dr_collector.specs.Collected.{Collected}
 use Rattle.dr_schedule_law.specs.Schedule.{appends, Follows, CutAtTurn}
 use Rattle.dr_schedule_law.specs.Timed.{MayAddTime}
-use Rattle.dr_schedule_law.proofs.Scheduled.{follows_still, follows_then, follows_cut, cut_behind, advance_follows, any_advance_follows}
+use Rattle.dr_schedule_law.proofs.Scheduled.{follows_still, follows_then, follows_cut, cut_after, advance_follows, any_advance_follows}
 use Rattle.dr_schedule_law.proofs.Advances.{advance_more, advance_none}
 use Rattle.dr_schedule_law.proofs.Timing.{advance_times}
 use Rattle.dr_migrate.specs.Driving.{AddsRead, Continues, GoesOn, HasAdvanced, HasDriven, IsDue, SinkRises, MadeBlock, Waited, is_sink}
@@ -161,7 +161,7 @@ pub drive_cut : (reads : ℕ → Type 0) (guest : Guest) (old mid new : BenchVie
     → HasDriven reads guest old mid c → CutAtTurn guest mid.past new.past
     → CutAtTurn guest old.past new.past
 drive_cut reads guest old mid new c driven cut =
-    cut_behind guest old.past mid.past new.past driven.follows cut
+    cut_after guest old.past mid.past new.past driven.follows cut
 
 pub drive_times : (reads : ℕ → Type 0) (guest : Guest) (old mid new : BenchView) (c : List Collected)
     → HasDriven reads guest old mid c → AddsRead reads mid.past new.past

@@ -16,7 +16,7 @@ use dr_ring_set::{RingSet, Rings, UserSeats};
 use dr_types::{Guest, Memory, NumberList};
 use std::alloc::Global;
 
-/// What a bench does: each call answers as it should; behind the calls three batches are settled,
+/// What a bench does: each call answers as it should; after the calls three batches are settled,
 /// or not; the events end with these lines; and the Stream port has so many bytes, of which the
 /// first are these.
 #[derive(Clone, Copy)]

@@ -60,7 +60,7 @@ fn holds(alloc: Global, text: &str, fails: u64, row: Row) -> Result<bool, Memory
     }
 }
 
-/// The second round is answered behind an exit, a reap by its parts and a flush.
+/// The second round is answered after an exit, a reap by its parts and a flush.
 #[test]
 fn a_round_waits_for_each_part(rt: HostRuntime) -> Result<(), Fail> {
     const CALLS: &[Call] = &[
@@ -100,7 +100,7 @@ fn a_round_waits_for_each_part(rt: HostRuntime) -> Result<(), Fail> {
     Ok(())
 }
 
-/// Behind a failed put the run is over, and the port has what was put before.
+/// After a failed put the run is over, and the port has what was put before.
 #[test]
 fn a_failed_put_ends_the_run(rt: HostRuntime) -> Result<(), Fail> {
     const CALLS: &[Call] = &[
@@ -176,7 +176,7 @@ fn reaps_take_what_was_pushed(rt: HostRuntime) -> Result<(), Fail> {
     Ok(())
 }
 
-/// A bench of which something has happened is driven to its switch-over, behind what stood before.
+/// A bench of which something has happened is driven to its switch-over, after what stood before.
 #[test]
 fn a_drive_goes_on_from_where_it_stands(rt: HostRuntime) -> Result<(), Fail> {
     const BEFORE: &str = "l 0 0

@@ -12,7 +12,7 @@ use dr_types::{Entry, Listed, Memory};
 use std::alloc::Global;
 use std::marker::PhantomData;
 
-/// The next entry of v goes behind all that v's seat harvested.
+/// The next entry of v goes after all that v's seat harvested.
 fn harvest_next<N: Name>(
     users: &mut UserSeats<N>,
     rings: &Rings<N>,
@@ -33,7 +33,7 @@ fn harvest_next<N: Name>(
     }
 }
 
-/// One entry that v's seat harvested, as a batch behind others, with a note of that seat.
+/// One entry that v's seat harvested, as a batch after others, with a note of that seat.
 fn push_batch<N: Name>(
     users: &mut UserSeats<N>,
     rings: &Rings<N>,

@@ -22,10 +22,10 @@ pub journal_cut : (guest : Guest) (past : List Event) (old told new : Ports) →
 journal_cut guest past old told new report part =
     inr (inl (part.0, part.1 ∙ ap (put_at Journal (take part.0 (journal_text guest past))) report))
 
--- the first puts were made, and of those behind them the next was cut
-pub cut_behind : (port : Port) (bytes : List ℕ) (puts : List (Port × List ℕ)) (old mid new : Ports) → mid ≡ put_at port bytes old
+-- the first puts were made, and of those after them the next was cut
+pub cut_after : (port : Port) (bytes : List ℕ) (puts : List (Port × List ℕ)) (old mid new : Ports) → mid ≡ put_at port bytes old
     → PutsCut puts mid new → PutsCut ((port, bytes) ∷ puts) old new
-cut_behind port bytes puts old mid new put cut = inr (subst (λ (ports : Ports). PutsCut puts ports new) put cut)
+cut_after port bytes puts old mid new put cut = inr (subst (λ (ports : Ports). PutsCut puts ports new) put cut)
 
 -- nothing more was put
 pub cut_here : (puts : List (Port × List ℕ)) (ports : Ports) → PutsCut puts ports ports
@@ -57,7 +57,7 @@ same_part n xs = ap (take (length (take n xs))) (sym (take-append-drop n xs)) �
 part_within : (n : ℕ) (xs : List ℕ) → length (take n xs) ≤ length xs
 part_within n xs = let is : length (take n xs) ≡ min n (length xs) = length-take n xs in omega (arith, is)
 
--- a first part of what comes next, behind what came before, is a first part of the whole
+-- a first part of what comes next, after what came before, is a first part of the whole
 cut_within : (n : ℕ) (front next rest : List ℕ) → take (length front + length (take n next)) ((front ++ next) ++ rest) ≡ front ++ take n next
 cut_within n front next rest =
     let few : length front + length (take n next) ≤ length (front ++ next) = let is = length-append front next in omega (arith, is, part_within n next) in

@@ -1,4 +1,4 @@
--- What a run leaves that ended, once the puts behind it are made.
+-- What a run leaves that ended, once the puts after it are made.
 use Rattle.std.proofs.Common.{◌≡◌, ℕ, true, List, [], ◌∷◌, Some, Result, Ok, Err, refl, sym, subst}
 use Rattle.std.specs.Prelude.{IfOk, OnOk, OnErr, IfErr}
 use Rattle.std.specs.List.{list_any}
@@ -23,11 +23,11 @@ use Rattle.dr_turns.specs.Due.{run_end}
 use Rattle.dr_turns.specs.declared.answers.RunEnd.{RunEnd}
 use Rattle.dr_turns.specs.declared.answers.RunEnd.TheVariants as end
 use Rattle.dr_schedule_law.proofs.Told.{spent_is_told}
-use Rattle.dr_plain.proofs.Cuts.{cut_behind}
+use Rattle.dr_plain.proofs.Cuts.{cut_after}
 use Rattle.dr_plain.specs.declared.ending.PutFault.{PutFault}
 use Rattle.dr_plain.specs.declared.ending.PutFault.TheVariants as fault
 use Rattle.dr_plain.specs.Ended.{IsWhole, status_of_end}
-use Rattle.dr_plain.specs.Puts.{IsFault, puts_behind, puts_of}
+use Rattle.dr_plain.specs.Puts.{IsFault, puts_after, puts_of}
 use Rattle.dr_plain.specs.Top.{IsRunOf, IsCutOff, RunSays, SchedulesAs}
 
 -- there is a switch-over where the last event is one
@@ -40,12 +40,12 @@ some_switched (e ∷ past) h = cc
 stands_switched : (guest : Guest) (past : List Event) → ends_switched past ≡ true → run_end guest past ≡ end.Switched
 stands_switched guest past h = rw (some_switched past h) refl
 
--- the stream was put, and of the puts behind the switch-over one was cut
+-- the stream was put, and of the puts after the switch-over one was cut
 pub cut_switched : (guest : Guest) (past : List Event) (old mid new : Ports) → StandsAs outcome.Switched guest past
-    → SendsAs outcome.Switched (stream_of guest past) old mid → PutsCut (puts_behind end.Switched guest past) mid new → PutsCut (puts_of guest past) old new
+    → SendsAs outcome.Switched (stream_of guest past) old mid → PutsCut (puts_after end.Switched guest past) mid new → PutsCut (puts_of guest past) old new
 cut_switched guest past old mid new ends sends cut =
-    cut_behind Stream (stream_of guest past) (puts_behind (run_end guest past) guest past) old mid new sends
-    (subst (λ (e : RunEnd). PutsCut (puts_behind e guest past) mid new) (sym (stands_switched guest past ends)) cut)
+    cut_after Stream (stream_of guest past) (puts_after (run_end guest past) guest past) old mid new sends
+    (subst (λ (e : RunEnd). PutsCut (puts_after e guest past) mid new) (sym (stands_switched guest past ends)) cut)
 
 -- however a run ended, its events are blocks of the schedule, cut at the end of a turn
 pub cut_anyhow : (guest : Guest) (past : List Event) (e : OutcomeEnd) → EndsAs e guest past

@@ -1,4 +1,4 @@
--- What the puts behind a run leave.
+-- What the puts after a run leave.
 use Rattle.std.specs.Prelude.{Result, Ok, Err}
 use Rattle.dr_types.specs.declared.guest.Guest.{Guest}
 use Rattle.dr_types.specs.declared.status.Status.{Status}
@@ -15,7 +15,7 @@ IsWhole outcome.Switched Done = Unit {0}
 IsWhole outcome.Budget Unfinished = Unit {0}
 IsWhole e other = ⊥
 
--- the status of a run, by what the puts behind it answered
+-- the status of a run, by what the puts after it answered
 abbrev pub status_of_end : Result Status PutFault → Status
 status_of_end (Ok s) = s
 status_of_end (Err fault.Outlet) = Outlet

@@ -20,17 +20,17 @@ abbrev pub texts_of : Guest → List Event → List (Port × List ℕ)
 texts_of guest past =
     (port.Report, report_of guest past) ∷ (port.Journal, journal_text guest past) ∷ []
 
--- what is put behind the stream, by where the run stands: the image only where the guest has
+-- what is put after the stream, by where the run stands: the image only where the guest has
 -- switched over, and nothing where the run was cut off
-abbrev pub puts_behind : RunEnd → Guest → List Event → List (Port × List ℕ)
-puts_behind end.Switched guest past = (port.Image, image_of guest past) ∷ texts_of guest past
-puts_behind end.Budget guest past = texts_of guest past
-puts_behind end.Open guest past = []
+abbrev pub puts_after : RunEnd → Guest → List Event → List (Port × List ℕ)
+puts_after end.Switched guest past = (port.Image, image_of guest past) ∷ texts_of guest past
+puts_after end.Budget guest past = texts_of guest past
+puts_after end.Open guest past = []
 
 -- what a run to these events puts, in this order
 abbrev pub puts_of : Guest → List Event → List (Port × List ℕ)
 puts_of guest past =
-    (port.Stream, stream_of guest past) ∷ puts_behind (run_end guest past) guest past
+    (port.Stream, stream_of guest past) ∷ puts_after (run_end guest past) guest past
 
 -- a first part of the bytes was put
 abbrev pub PutsPart : Port → List ℕ → Ports → Ports → Type 0

@@ -9,7 +9,7 @@ ghost use Rattle.dr_history.specs.Stream.{stream_of};
 ghost use Rattle.dr_run.specs.Outcomes.{SendsAs, StandsAs};
 ghost use Rattle.dr_turns.specs.declared.answers.RunEnd.TheVariants as end;
 ghost use Rattle.dr_plain.specs.Ended.{IsWhole};
-ghost use Rattle.dr_plain.specs.Puts.{IsFault, PutsPart, puts_behind, puts_of, texts_of};
+ghost use Rattle.dr_plain.specs.Puts.{IsFault, PutsPart, puts_after, puts_of, texts_of};
 
 use crate::journal::journal;
 use dr_history::History;
@@ -135,15 +135,15 @@ fn put_texts<O: Outlet>(
     put_journal(alloc, guest, history, out)
 }
 
-/// Puts what stands behind the stream where the guest has switched over: the image and the texts.
+/// Puts what stands after the stream where the guest has switched over: the image and the texts.
 fn put_switched<N: Name, O: Outlet>(
     alloc: Global,
     machine: &Machine<N>,
     out: &mut O,
 ) -> Result<(), PutFault>
-    ensures done { let puts = puts_behind end.Switched N.guest machine.now.past in
+    ensures done { let puts = puts_after end.Switched N.guest machine.now.past in
         OnOk result (O.told out.new ≡ put_all puts (O.told out.old)) }
-    ensures cut { let puts = puts_behind end.Switched N.guest machine.now.past in
+    ensures cut { let puts = puts_after end.Switched N.guest machine.now.past in
         OnErr result (PutsCut puts (O.told out.old) (O.told out.new)) }
     ensures later { O.faults out.old ≤ O.faults out.new }
     ensures fault { IfErr result (IsFault (O.faults out.old) (O.faults out.new)) }
@@ -153,9 +153,9 @@ fn put_switched<N: Name, O: Outlet>(
     put_texts(alloc, machine.guest(), machine.history(), out)
 }
 
-/// Puts what stands behind the stream of a run, by how it ended, and answers the status of one that
+/// Puts what stands after the stream of a run, by how it ended, and answers the status of one that
 /// was not cut off.
-pub fn put_behind<N: Name, O: Outlet>(
+pub fn put_after<N: Name, O: Outlet>(
     alloc: Global,
     machine: &Machine<N>,
     end: OutcomeEnd,

@@ -6,7 +6,7 @@ ghost use Rattle.dr_run.specs.Outcomes.{EndsAs, SendsAs, StandsAs};
 ghost use Rattle.dr_plain.specs.Ended.{left_of, status_of_end};
 ghost use Rattle.dr_plain.specs.Top.{IsRunOf, RunSays, SchedulesAs};
 
-use crate::ending::{PutFault, put_behind};
+use crate::ending::{PutFault, put_after};
 use dr_io::Outlet;
 use dr_machine::{Kept, Machine};
 use dr_ring::Name;
@@ -23,7 +23,7 @@ pub struct Finished<O: Outlet> {
     pub kept: Option<Kept>,
 }
 
-/// The status of a run, by what the puts behind it answered.
+/// The status of a run, by what the puts after it answered.
 fn status_of(end: Result<Status, PutFault>) -> Status
     ensures { result ≡ status_of_end end }
 {
@@ -46,7 +46,7 @@ fn keep<N: Name>(machine: Machine<N>) -> Kept
     kept
 }
 
-/// Puts what stands behind the stream of a run, and keeps what is left of its machine.
+/// Puts what stands after the stream of a run, and keeps what is left of its machine.
 #[tactic(auto, using(crate::proofs::Finishing::run_schedules))]
 pub fn finish<N: Name, O: Outlet>(
     alloc: Global,
@@ -64,7 +64,7 @@ pub fn finish<N: Name, O: Outlet>(
         → SchedulesAs result.status N.guest machine.past }
     ensures outlet { result.status ≡ Status.Outlet → Rose N.faults (O.faults result.out) }
 {
-    let status = status_of(put_behind(alloc, &machine, end, &mut out));
+    let status = status_of(put_after(alloc, &machine, end, &mut out));
     Finished {
         status,
         out,

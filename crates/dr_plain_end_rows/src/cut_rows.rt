@@ -19,7 +19,7 @@ fn stops_at_failing_puts(rt: HostRuntime) -> Result<(), Fail> {
     let report = report_of(alloc, 0, 1)?.len();
     let file = guest_file(alloc, "")?;
     let journal = journal_of(alloc, &file, "h 0 0\n", 0)?.len();
-    // The put that fails, and how long the four ports are before it: nothing is put behind it. A
+    // The put that fails, and how long the four ports are before it: nothing is put after it. A
     // run has eight puts.
     let rows = [
         (1, Status::Outlet, [0, 0, 0, 0]),

@@ -51,8 +51,8 @@ fn sleeps_for_naps_and_throttles(rt: HostRuntime) -> Result<(), Fail> {
     Ok(())
 }
 
-/// The rate of six pages in no time is 24,000,000 KiB a second, so the throttle behind the second
-/// round is 1,081,278 microseconds. The full exit before it sleeps for none, and that behind it for
+/// The rate of six pages in no time is 24,000,000 KiB a second, so the throttle after the second
+/// round is 1,081,278 microseconds. The full exit before it sleeps for none, and that after it for
 /// a second.
 #[test]
 fn sleeps_no_longer_than_a_second(rt: HostRuntime) -> Result<(), Fail> {

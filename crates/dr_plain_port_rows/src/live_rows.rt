@@ -1,4 +1,4 @@
-//! Guests whose vCPUs run on behind the start of logging.
+//! Guests whose vCPUs run on after the start of logging.
 
 use dr_io::{Port, PortBook};
 use dr_plain_testing::{joined, step_on};
@@ -22,7 +22,7 @@ struct Row {
     image: &'static [u8],
 }
 
-/// Two pages, each written once behind the start.
+/// Two pages, each written once after the start.
 const TWO_WRITES: Row = Row {
     head: "dirtyguest 1\nring 8\nreserve 2\nbuffer 2\npace 1\nthreshold 0\nrounds 4\nquota ",
     quota: "0",
@@ -61,7 +61,7 @@ const THROTTLED: Row = Row {
     ..TWO_WRITES
 };
 
-/// Twelve pages through a ring that is full behind five of them.
+/// Twelve pages through a ring that is full after five of them.
 const FULL_RING: Row = Row {
     head: "dirtyguest 1\nring 8\nreserve 2\nbuffer 1\npace 13\nthreshold 0\nrounds 4\nquota ",
     quota: "0",
@@ -76,7 +76,7 @@ const FULL_RING: Row = Row {
     image: &[1, 1, 1, 1, 1, 1, 1, 1, 1, 1, 1, 1],
 };
 
-/// A full exit behind each entry.
+/// A full exit after each entry.
 const SOFT_LIMIT_ONE: Row = Row {
     head: "dirtyguest 1\nring 4\nreserve 3\nbuffer 0\npace 4\nthreshold 0\nrounds 4\nquota ",
     quota: "0",

@@ -9,7 +9,7 @@ use std::test::Fail;
 #[test]
 fn refuses_files(rt: HostRuntime) -> Result<(), Fail> {
     let large = |what, no| FileFault::TooLarge { what, no };
-    // What stands behind the settings, and its first fault.
+    // What stands after the settings, and its first fault.
     let rows = [
         (
             "slot 0 0 1\nvcpu\nw 4095 0102\nhalt\n",

@@ -7,7 +7,7 @@ use Rattle.dr_history.specs.declared.event.Event.{Event}
 use Rattle.dr_history.specs.declared.event.Event.TheVariants.{Reset}
 use Rattle.dr_history.specs.Entries.{resets}
 use Rattle.dr_history.specs.Legality.{IsLegalSoFar}
-use Rattle.dr_schedule_law.specs.Settled.{Range, of_vcpu, in_order, deposited_all, reset_behind, Settles, ResetsBelow, ResetsPart, FlushWaits}
+use Rattle.dr_schedule_law.specs.Settled.{Range, of_vcpu, in_order, deposited_all, reset_after, Settles, ResetsBelow, ResetsPart, FlushWaits}
 use Rattle.dr_schedule_law.specs.Reaps.{Extends}
 use Rattle.dr_schedule_law.proofs.Extending.{extends_still, extends_more, extends_then, flush_extends}
 
@@ -22,10 +22,10 @@ pub legal_before : (guest : Guest) (old new : List Event) → Extends old new �
 legal_before guest old new it legal = legal_rest guest it.more old
     (subst (λ (xs : List Event). IsLegalSoFar guest xs) it.parts legal)
 
-resets_grow : (v n : ℕ) (past : List Event) → Extends past (reset_behind v n past)
+resets_grow : (v n : ℕ) (past : List Event) → Extends past (reset_after v n past)
 resets_grow v zero past = extends_still past
-resets_grow v (suc n) past = extends_more past (reset_behind v n past)
-    (Reset v (resets v (reset_behind v n past))) (resets_grow v n past)
+resets_grow v (suc n) past = extends_more past (reset_after v n past)
+    (Reset v (resets v (reset_after v n past))) (resets_grow v n past)
 
 below_grows : (n total : ℕ) (old new : List Event) → ResetsBelow n old new total → Extends old new
 below_grows zero total old new below = subst (Extends old) (sym below.0) (extends_still old)
@@ -56,12 +56,12 @@ none_there [] rest next h = cc
 none_there (y ∷ ys) rest next h = cc
 
 -- where one list is split, of which another is all but the last
-record Behind (xs ys : List Range) (next : Range) : Type 0 where
+record After (xs ys : List Range) (next : Range) : Type 0 where
   pub rest : List Range
   pub parts : xs ≡ ys ++ next ∷ rest
 
 split_last : (xs ys rest : List Range) (x next : Range) → xs ++ x ∷ [] ≡ ys ++ next ∷ rest
-    → (ys ≡ xs) ⊎ Behind xs ys next
+    → (ys ≡ xs) ⊎ After xs ys next
 split_last [] [] rest x next h = inl refl
 split_last (z ∷ xs) [] rest x next h = inr (record { rest = xs; parts = cc })
 split_last [] (y ∷ ys) rest x next h = absurd (none_there ys rest next cc)

@@ -5,7 +5,7 @@ use Rattle.dr_history.specs.declared.event.Event.{Event}
 use Rattle.dr_history.specs.declared.event.Event.TheVariants.{Reset}
 use Rattle.dr_history.specs.Entries.{resets}
 use Rattle.dr_turns_law.specs.Deposits.{next_deposited}
-use Rattle.dr_schedule_law.specs.Settled.{reset_behind, Resets, ResetsSome, ResetsAll, ResetsBelow, ResetsPart}
+use Rattle.dr_schedule_law.specs.Settled.{reset_after, Resets, ResetsSome, ResetsAll, ResetsBelow, ResetsPart}
 
 -- a Reset of the vCPU counts
 pub resets_own : (v k : ℕ) (past new : List Event) → new ≡ Reset v k ∷ past → resets v new ≡ resets v past + 1
@@ -17,11 +17,11 @@ resets_none v old = record { past = refl; due = λ k lt. absurd (omega (arith, l
 -- the next entry too
 pub resets_more : (v n : ℕ) (old mid new : List Event) → Resets v old mid n → next_deposited v mid ≡ true → new ≡ Reset v (resets v mid) ∷ mid → Resets v old new (n + 1)
 resets_more v n old mid new r due one = record {
-  past = one ∙ ap (λ (xs : List Event). Reset v (resets v xs) ∷ xs) r.past ∙ ap (λ k. reset_behind v k old) (sym (add-one n));
+  past = one ∙ ap (λ (xs : List Event). Reset v (resets v xs) ∷ xs) r.past ∙ ap (λ k. reset_after v k old) (sym (add-one n));
   due = λ k lt.
       elim (cases_lt k n) [
         | inl l ↦ r.due k l
-        | inr l ↦ let e : k ≡ n = omega (arith, l, lt) in ap (λ j. next_deposited v (reset_behind v j old)) e ∙ ap (next_deposited v) (sym r.past) ∙ due
+        | inr l ↦ let e : k ≡ n = omega (arith, l, lt) in ap (λ j. next_deposited v (reset_after v j old)) e ∙ ap (next_deposited v) (sym r.past) ∙ due
       ];
 }
 

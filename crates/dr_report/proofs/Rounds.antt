@@ -24,7 +24,7 @@ use Rattle.dr_report.proofs.Turns.{last_round, UpTo, in_turn, answers_later, cop
 abbrev share_lines : Guest → (ℕ → ℕ) → (ℕ → ℕ) → List Event → List ℕ
 share_lines guest entries rates until = flat_map (λ v. share_line v (entries v) (rates v) (last_throttled v until)) (below (vcpu_count guest))
 
--- an event behind an answer of a later round changes nothing of the answers before
+-- an event after an answer of a later round changes nothing of the answers before
 steady : (guest : Guest) (e : Event) (past xs : List Event) (m : ℕ) → UpTo m xs
     → ((s : ℕ) → s ≤ m → list_any (answers_after s) (e ∷ past) ≡ true) → ((s : ℕ) → s ≤ m → copies_in_round s e ≡ false)
     → rounds_text guest (e ∷ past) xs ≡ rounds_text guest past xs

@@ -67,12 +67,12 @@ sheet_of guest past = record {
   switched = list_any is_switched past;
 }
 
--- a vCPU's line behind the answers
+-- a vCPU's line after the answers
 abbrev pub vcpu_share : ℕ → Option Tally → List ℕ
 vcpu_share v None = []
 vcpu_share v (Some t) = vcpu_line v t.ops t.full_exits t.kicked_exits
 
--- each vCPU's line behind the answers
+-- each vCPU's line after the answers
 abbrev pub vcpu_lines : List Tally → List ℕ
 vcpu_lines tallies = flat_map (λ v. vcpu_share v (slice_get tallies v)) (below (length tallies))
 

@@ -18,7 +18,7 @@ abbrev pub IsOfSize : ℕ → TableId → Type 0
 IsOfSize size id = id.words ≡ 1 + 2 * size
 
 -- The kernel seat of a ring: all that it pushed, how many of these it has reset, and how many
--- harvests it knows of. `loaded` has each entry word that it loaded, behind the index of the word.
+-- harvests it knows of. `loaded` has each entry word that it loaded, after the index of the word.
 pub record KernelView : Type 0 where
   pub ring : TableId
   pub pushed : List Entry

@@ -34,7 +34,7 @@ pub struct View {
     pub reset: u64,
     /// How many harvests the kernel seat knows of, or how many pushes the user seat knows of.
     pub known: u64,
-    /// The entry words that the seat has loaded, each behind the index of its word.
+    /// The entry words that the seat has loaded, each after the index of its word.
     pub loaded: [(u64, u64); 0],
     /// The list of the note that the seat learnt last.
     pub told: [Entry; 0],

@@ -1,4 +1,4 @@
--- The rules in three groups, in the order in which they are judged behind rules 1 and 2.
+-- The rules in three groups, in the order in which they are judged after rules 1 and 2.
 use Rattle.std.specs.Prelude.{Bool, List, [], ◌∷◌}
 use Rattle.dr_types.specs.declared.guest.Guest.{Guest}
 use Rattle.dr_history.specs.declared.event.Event.{Event}

@@ -20,7 +20,7 @@ use crate::throttles::throttles_due;
 use dr_history::Event;
 use dr_log::Log;
 
-/// The least rule that an event breaks behind those of the log.
+/// The least rule that an event breaks after those of the log.
 #[tactic(auto, using(crate::proofs::Tests::named))]
 pub fn broken(log: &Log, e: &Event) -> Option<u32>
     ensures { result ≡ broken log.now.guest log.now.past e.now }

@@ -34,7 +34,7 @@ fn follows_last(guest: &Guest, events: &[Event], e: &Event) -> bool
     }
 }
 
-/// Rule 1: behind an Opened or a Filled comes the write that it is for.
+/// Rule 1: after an Opened or a Filled comes the write that it is for.
 pub fn write_follows(log: &Log, e: &Event) -> bool
     ensures { result ≡ write_follows log.now.guest log.now.past e.now }
 {

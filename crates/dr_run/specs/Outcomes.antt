@@ -26,7 +26,7 @@ pub record HasSwitched (guest : Guest) (past : List Event) : Type 0 where
   pub last : ends_switched past ≡ true
   pub scheduled : IsScheduled guest past
 
--- the events are blocks of the schedule, and behind them the rounds are spent
+-- the events are blocks of the schedule, and after them the rounds are spent
 pub record HasSpent (guest : Guest) (past : List Event) : Type 0 where
   pub spent : run_end guest past ≡ end.Budget
   pub scheduled : IsScheduled guest past

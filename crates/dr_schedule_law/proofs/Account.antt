@@ -78,7 +78,7 @@ closing_unflushed page (Reset v k ∷ past) h = refl
 closing_unflushed page (Flushed ∷ past) h = h
 closing_unflushed page (e ∷ past) h = closing_unflushed page past h
 
--- so a flush comes behind a Reset
+-- so a flush comes after a Reset
 some_unflushed : (pages : List ℕ) (past : List Event) → list_any (λ page. closing page past) pages ≡ true
     → unflushed past ≡ true
 some_unflushed [] past h = absurd (false≢true h)
@@ -86,10 +86,10 @@ some_unflushed (page ∷ pages) past h =
     either (closing page past) (list_any (λ q. closing q past) pages) (unflushed past ≡ true)
     (closing_unflushed page past) (some_unflushed pages past) h
 
-flush_behind : (guest : Guest) (past : List Event) → broken guest past Flushed ≡ None
+flush_after : (guest : Guest) (past : List Event) → broken guest past Flushed ≡ None
     → flag (unflushed past) ≡ 1
 unfolding flush_has_cause
-flush_behind guest past h =
+flush_after guest past h =
     ap (λ b. flag b)
     (some_unflushed (below (page_count guest)) past (keeps guest past Flushed h).flush_has_cause_holds)
 
@@ -170,7 +170,7 @@ accounted guest (Flushed ∷ past) legal =
       arith,
       accounted guest past legal.1,
       unowed guest past Flushed legal.0 refl,
-      flush_behind guest past legal.0,
+      flush_after guest past legal.0,
     )
 accounted guest (e ∷ past) legal =
     omega (arith, accounted guest past legal.1, unowed guest past e legal.0 refl)

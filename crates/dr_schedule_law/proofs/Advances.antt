@@ -11,7 +11,7 @@ use Rattle.dr_history.specs.Rounds.{last_synced}
 use Rattle.dr_history.specs.Vcpus.{stopped}
 use Rattle.dr_turns.specs.declared.answers.Advance.{Advance}
 use Rattle.dr_turns.specs.declared.answers.Advance.TheVariants as advance
-use Rattle.dr_turns.specs.Due.{advanced, throttled_behind, answered_behind, copies_from, round_of}
+use Rattle.dr_turns.specs.Due.{advanced, throttled_after, answered_after, copies_from, round_of}
 use Rattle.dr_turns_law.proofs.Cases.{IsWait, advanced_cases}
 use Rattle.dr_schedule_law.specs.Schedule.{appends}
 use Rattle.dr_schedule_law.proofs.Reaping.{by_test}
@@ -26,16 +26,16 @@ wait_none advance.Budget is = refl
 wait_none a is = absurd is
 
 throttled_longer : (guest : Guest) (n : ℕ) (past : List Event)
-    → length past ≤ length (throttled_behind guest n past)
+    → length past ≤ length (throttled_after guest n past)
 throttled_longer guest zero past = omega arith
 throttled_longer guest (suc n) past = let before = throttled_longer guest n past in omega (arith, before)
 
 answered_longer : (guest : Guest) (r now : ℕ) (past : List Event)
-    → length past < length (answered_behind guest r now past)
+    → length past < length (answered_after guest r now past)
 answered_longer guest r now past =
     by_test (λ (xs : List Event). length past < length xs)
     (nat_le 1 guest.settings.quota && not (stopped past))
-    (throttled_behind guest (vcpu_count guest) (Synced r now (dirty_pages guest past) ∷ past))
+    (throttled_after guest (vcpu_count guest) (Synced r now (dirty_pages guest past) ∷ past))
     (Synced r now (dirty_pages guest past) ∷ past)
     (let longer = throttled_longer guest (vcpu_count guest)
     (Synced r now (dirty_pages guest past) ∷ past) in omega (arith, longer)) (omega arith)

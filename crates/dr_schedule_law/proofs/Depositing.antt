@@ -46,7 +46,7 @@ joined v n p k b lt is =
       | inr g ↦ rw (eq-eqb v v refl, le-leb n k g, is, le-ltb k n g) (or-false (nat_lt k p))
     ]
 
--- behind the deposit of a vCPU's rest all that it pushed is deposited
+-- after the deposit of a vCPU's rest all that it pushed is deposited
 pub rest_own : (v n : ℕ) (past : List Event) → AreFirstDeposited v n past → n ≤ pushes v past
     → AreFirstDeposited v (pushes v past) (rest_deposited v past)
 rest_own v n past first le =
@@ -107,7 +107,7 @@ first_deposited whose starts (suc n) u past lt few first =
           (later_stay whose n u (starts u) past g first))
     ]
 
--- deposits of two lists, one behind the other
+-- deposits of two lists, one after the other
 pub deposited_append : (xs ys : List Range) (past : List Event)
     → deposited_all (xs ++ ys) past ≡ deposited_all ys (deposited_all xs past)
 deposited_append [] ys past = refl

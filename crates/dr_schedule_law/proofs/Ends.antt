@@ -20,7 +20,7 @@ use Rattle.dr_turns.specs.declared.answers.RunEnd.TheVariants as end
 use Rattle.dr_turns.specs.Due.{run_end}
 use Rattle.dr_schedule_law.specs.Spent.{AreSpent, CopiesEach, IsLargeRound}
 use Rattle.dr_schedule_law.proofs.Answered.{is_quiet}
-use Rattle.dr_schedule_law.proofs.Behind.{runs_here, asks_within, asks_behind, none_asked}
+use Rattle.dr_schedule_law.proofs.After.{runs_here, asks_within, asks_after, none_asked}
 use Rattle.dr_schedule_law.proofs.Copied.{all_are_copied}
 use Rattle.dr_schedule_law.proofs.Rounds.{large_on}
 use Rattle.dr_schedule_law.proofs.Runs.{spent_begun, spent_runs}
@@ -41,16 +41,16 @@ enough guest past later r at pages earlier legal last since_it each =
     ∙ subst (λ (xs : List Event). list_all (copied_in xs) pages ≡ true) (sym since_it)
     (all_are_copied r pages later each))
 
--- behind the answer of the last round, where that was large and is copied, nothing is left
-behind_last : (guest : Guest) (later : List Event) (r at : ℕ) (pages : List ℕ) (earlier : List Event)
+-- after the answer of the last round, where that was large and is copied, nothing is left
+after_last : (guest : Guest) (later : List Event) (r at : ℕ) (pages : List ℕ) (earlier : List Event)
     → IsLegalSoFar guest (later ++ Synced r at pages ∷ earlier)
     → started (later ++ Synced r at pages ∷ earlier) ≡ true
     → stopped (later ++ Synced r at pages ∷ earlier) ≡ false
     → guest.settings.rounds ≡ r → guest.settings.threshold < length pages → CopiesEach r pages later
     → NoneIsLeft guest (later ++ Synced r at pages ∷ earlier)
-behind_last guest later r at pages earlier legal begun running is large copied =
+after_last guest later r at pages earlier legal begun running is large copied =
     let past : List Event = later ++ Synced r at pages ∷ earlier in
-    let sum = asks_behind guest later r at pages earlier legal in
+    let sum = asks_after guest later r at pages earlier legal in
     let few = asks_within guest past legal running in
     let none = none_asked later (omega (arith, sum, few, is)) in
     let quiet = is_quiet guest later r at pages earlier legal none in
@@ -76,7 +76,7 @@ last_leaves_none : (guest : Guest) (past : List Event) (r : ℕ) → IsLegalSoFa
     → NoneIsLeft guest past
 last_leaves_none guest past r legal begun running is round =
     subst (NoneIsLeft guest) (sym round.answered)
-    (behind_last guest round.later r round.at round.pages round.earlier
+    (after_last guest round.later r round.at round.pages round.earlier
     (subst (IsLegalSoFar guest) round.answered legal)
     (subst (λ (xs : List Event). started xs ≡ true) round.answered begun)
     (subst (λ (xs : List Event). stopped xs ≡ false) round.answered running)

@@ -1,4 +1,4 @@
--- Where a vCPU is behind its op, and what its exit leaves.
+-- Where a vCPU is after its op, and what its exit leaves.
 use Rattle.std.proofs.Common.{◌≡◌, ℕ, true, false, cond, List, ◌∷◌, Option, Some, None, is_some, ap, ◌∙◌}
 use Rattle.std.specs.Prelude.{◌==◌, ◌||◌}
 use Rattle.std.proofs.lemmas.Bool.{eq-eqb, or_left, false≢true}
@@ -35,29 +35,29 @@ same_number w v is = cc
 own_op : (w v : ℕ) (past : List Event) → Some w ≡ Some v → (w == v || in_guest v past) ≡ true
 own_op w v past is = or_left (w == v) (in_guest v past) (eq-eqb w v (same_number w v is))
 
-inside_behind : (e : Event) (v : ℕ) (past : List Event) → vcpu_of_op e ≡ Some v → in_guest v (e ∷ past) ≡ true
-inside_behind (Read w i a x) v past is = own_op w v past is
-inside_behind (Write w i a l x) v past is = own_op w v past is
-inside_behind (Paint w i q b) v past is = own_op w v past is
-inside_behind (Local w i) v past is = own_op w v past is
-inside_behind (Halted w i) v past is = own_op w v past is
-inside_behind e v past is = cc
+inside_after : (e : Event) (v : ℕ) (past : List Event) → vcpu_of_op e ≡ Some v → in_guest v (e ∷ past) ≡ true
+inside_after (Read w i a x) v past is = own_op w v past is
+inside_after (Write w i a l x) v past is = own_op w v past is
+inside_after (Paint w i q b) v past is = own_op w v past is
+inside_after (Local w i) v past is = own_op w v past is
+inside_after (Halted w i) v past is = own_op w v past is
+inside_after e v past is = cc
 
 -- where there is an op
 pub no_op : (o : Option Op) → is_some o ≡ true → o ≡ None → ⊥
 no_op None s h = false≢true s
 no_op (Some x) s h = cc
 
--- behind its op a vCPU is in the guest
+-- after its op a vCPU is in the guest
 pub inside_after_op : (guest : Guest) (past : List Event) (v : ℕ)
     → is_some (operation guest v (ops v past)) ≡ true → in_guest v (after_op guest v past) ≡ true
 inside_after_op guest past v some =
     let inside : in_guest v (executed guest v past) ≡ true =
     by_executed (λ (xs : List Event). in_guest v xs ≡ true) guest past v
     (λ none. absurd (no_op (operation guest v (ops v past)) some none))
-    (λ e is. inside_behind e v past is)
-    (λ e page is. inside_behind e v (Filled v page ∷ past) is)
-    (λ e page is. inside_behind e v (Opened v (opens v past) page ∷ past) is) in
+    (λ e is. inside_after e v past is)
+    (λ e page is. inside_after e v (Filled v page ∷ past) is)
+    (λ e page is. inside_after e v (Opened v (opens v past) page ∷ past) is) in
     by_test (λ (xs : List Event). in_guest v xs ≡ true) _ (all_pushed v (executed guest v past))
     (executed guest v past)
     (inside_pushed v v (unpushed v (executed guest v past)) (executed guest v past) ∙ inside) inside

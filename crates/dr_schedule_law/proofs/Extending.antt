@@ -1,4 +1,4 @@
--- Events that come behind others.
+-- Events that come after others.
 use Rattle.std.proofs.Common.{◌≡◌, ℕ, zero, suc, ◌+◌, ◌<◌, ◌≤◌, true, List, [], ◌∷◌, ◌++◌, length, refl, ap, sym, subst, ◌∙◌, arith, inl, inr, append_assoc, length-append}
 use Rattle.std.specs.Prelude.{Option}
 use Rattle.std.proofs.lemmas.Bool.{cases_lt}
@@ -7,7 +7,7 @@ use Rattle.dr_history.specs.declared.event.Event.{Event}
 use Rattle.dr_history.specs.Entries.{resets, used}
 use Rattle.dr_history.specs.declared.event.Event.TheVariants.{Deposited, Reset, Flushed}
 use Rattle.dr_turns_law.specs.Deposits.{first_twice, next_deposited}
-use Rattle.dr_schedule_law.specs.Settled.{Range, fresh_behind, deposited_one, deposited_all, reset_behind, flushed}
+use Rattle.dr_schedule_law.specs.Settled.{Range, fresh_after, deposited_one, deposited_all, reset_after, flushed}
 use Rattle.dr_schedule_law.specs.Reaps.{Extends, reset_while, all_reset_below, reaped}
 use Rattle.dr_schedule_law.proofs.Reaping.{by_test, by_reset_while, by_flushed, by_reaped}
 use Rattle.dr_schedule_law.proofs.Resetting.{reset_first}
@@ -44,7 +44,7 @@ extends_strictly old new it differ =
     subst (λ (xs : List Event). length old < length xs) (sym it.parts)
     (more_case old it.more (λ e. differ (it.parts ∙ e)))
 
-fresh_extends : (r : Range) (o : Option ℕ) (past : List Event) → Extends past (fresh_behind r o past)
+fresh_extends : (r : Range) (o : Option ℕ) (past : List Event) → Extends past (fresh_after r o past)
 fresh_extends r Option.None past =
     extends_more past past (Deposited r.vcpu r.first (r.first + r.count)) (extends_still past)
 fresh_extends r (Option.Some k) past = extends_still past
@@ -55,7 +55,7 @@ deposits_extend [] past = extends_still past
 deposits_extend (r ∷ rs) past =
     extends_then past (deposited_one r past) (deposited_all rs (deposited_one r past))
     (by_test (Extends past) _ past
-    (fresh_behind r (first_twice r.vcpu r.first past (r.first + r.count)) past) (extends_still past)
+    (fresh_after r (first_twice r.vcpu r.first past (r.first + r.count)) past) (extends_still past)
     (fresh_extends r (first_twice r.vcpu r.first past (r.first + r.count)) past))
     (deposits_extend rs (deposited_one r past))
 
@@ -95,8 +95,8 @@ reap_extends guest whose past =
 
 -- the resets of a vCPU extend some first ones of them
 pub while_extends : (v n fuel : ℕ) (past : List Event)
-    → ((k : ℕ) → k < n → next_deposited v (reset_behind v k past) ≡ true) → n ≤ fuel
-    → Extends (reset_behind v n past) (reset_while v fuel past)
+    → ((k : ℕ) → k < n → next_deposited v (reset_after v k past) ≡ true) → n ≤ fuel
+    → Extends (reset_after v n past) (reset_while v fuel past)
 while_extends v zero fuel past due le = resets_extend v fuel past
 while_extends v (suc n) zero past due le = absurd (omega (arith, le))
 while_extends v (suc n) (suc fuel) past due le =

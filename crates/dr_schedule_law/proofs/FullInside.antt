@@ -25,10 +25,10 @@ use Rattle.dr_turns_law.proofs.Together.{run_on}
 use Rattle.dr_turns_law.proofs.Found.{first_none}
 use Rattle.dr_turns.specs.declared.answers.Advance.{Advance}
 use Rattle.dr_turns.specs.declared.answers.Advance.TheVariants as advance
-use Rattle.dr_turns.specs.Due.{advanced, throttled_behind, answered_behind, round_of}
+use Rattle.dr_turns.specs.Due.{advanced, throttled_after, answered_after, round_of}
 use Rattle.dr_turns.specs.Firsts.{first_unreset}
 use Rattle.dr_turns.specs.Buffers.{all_pushed}
-use Rattle.dr_turns.specs.Turns.{op_behind, executed, after_op, after_exit}
+use Rattle.dr_turns.specs.Turns.{op_after, executed, after_op, after_exit}
 use Rattle.dr_schedule_law.specs.Reaps.{is_reaped, AreDepositedUpTo, reaped}
 use Rattle.dr_schedule_law.specs.Schedule.{Point, point, Call, exited, call_after_op, vcpu_block, due_block, reaps_after_full, block}
 use Rattle.dr_schedule_law.specs.Schedule.Call.{rest, reap, leave}
@@ -97,7 +97,7 @@ still_on old new same still some v =
     ap (opens v) same.round.asks in
     omega (arith, few, asked, same.opened v)
 
--- behind the exit of a vCPU that has halted
+-- after the exit of a vCPU that has halted
 exit_inside : (guest : Guest) (past : List Event) (v u : ℕ) (own : Bool) → (v == u) ≡ own
     → halted v past ≡ true → IsFullInside guest past u → IsFullInside guest (after_exit guest v past) u
 exit_inside guest past v u true is halts inside full going =
@@ -111,7 +111,7 @@ exit_inside guest past v u false is halts inside full going =
     aside_inside guest u past (after_exit guest v past)
     (by_exit (IsAside u past) guest past v (aside_still u past) (turn_aside v u past is)) inside full going
 
--- behind a reap, where no entry is in use of a vCPU that is reaped
+-- after a reap, where no entry is in use of a vCPU that is reaped
 reaped_inside : (guest : Guest) (whose : Option ℕ) (past : List Event) (v : ℕ) (own : Bool)
     → is_reaped whose v ≡ own
     → (is_reaped whose v ≡ true → IsFullInside guest (reaped guest whose past) v)
@@ -122,7 +122,7 @@ reaped_inside guest whose past v false is f g =
     aside_inside guest v past (reaped guest whose past)
     (by_reaped (IsAside v past) guest whose past (aside_still v past) (reap_aside v past)) (g is)
 
--- behind an op, which leaves its vCPU in the guest
+-- after an op, which leaves its vCPU in the guest
 op_inside : (guest : Guest) (past : List Event) (v u : ℕ) (own : Bool) → (v == u) ≡ own
     → in_guest v (after_op guest v past) ≡ true → IsFullInside guest past u
     → IsFullInside guest (after_op guest v past) u
@@ -211,7 +211,7 @@ halt_halts : (guest : Guest) (past : List Event) (v : ℕ) → operation guest v
 unfolding executed
 halt_halts guest past v is =
     let now : halted v (executed guest v past) ≡ true =
-    ap (λ (o : Option Op). halted v (op_behind guest v o past)) is
+    ap (λ (o : Option Op). halted v (op_after guest v o past)) is
     ∙ or_left (v == v) (halted v past) (eq-eqb v v refl) in
     by_test (λ (xs : List Event). halted v xs ≡ true) _ (all_pushed v (executed guest v past))
     (executed guest v past)
@@ -279,7 +279,7 @@ answer_unused guest past r v legal due it lt =
     omega (arith, opened, reset, pushed)
 
 throttles_keep : (guest : Guest) (n : ℕ) (past : List Event) → AreFullInside guest past
-    → AreFullInside guest (throttled_behind guest n past)
+    → AreFullInside guest (throttled_after guest n past)
 throttles_keep guest zero past it = it
 throttles_keep guest (suc n) past it =
     let before = throttles_keep guest n past it in
@@ -287,7 +287,7 @@ throttles_keep guest (suc n) past it =
 
 -- the answer of a round
 answer_keeps : (guest : Guest) (past : List Event) (r now : ℕ) → IsValid guest → IsLegalSoFar guest past
-    → AnswerDue guest past r → AreFullInside guest past → AreFullInside guest (answered_behind guest r now past)
+    → AnswerDue guest past r → AreFullInside guest past → AreFullInside guest (answered_after guest r now past)
 answer_keeps guest past r now valid legal due it =
     let answer : List Event = Synced r now (dirty_pages guest past) ∷ past in
     let here : AreFullInside guest answer = record {
@@ -295,7 +295,7 @@ answer_keeps guest past r now valid legal due it =
       still = λ some. absurd (false≢true some);
     } in
     by_test (AreFullInside guest) (nat_le 1 guest.settings.quota && not (stopped past))
-    (throttled_behind guest (vcpu_count guest) answer) answer (throttles_keep guest (vcpu_count guest) answer here)
+    (throttled_after guest (vcpu_count guest) answer) answer (throttles_keep guest (vcpu_count guest) answer here)
     here
 
 -- a round that is asked

@@ -13,7 +13,7 @@ use Rattle.dr_history_law.specs.Room.{unpushed}
 use Rattle.dr_turns_law.proofs.Executing.{by_executed}
 use Rattle.dr_turns.specs.declared.answers.Advance.{Advance}
 use Rattle.dr_turns.specs.declared.answers.Advance.TheVariants as advance
-use Rattle.dr_turns.specs.Buffers.{pushed_behind, all_pushed}
+use Rattle.dr_turns.specs.Buffers.{pushed_after, all_pushed}
 use Rattle.dr_turns.specs.Due.{advanced}
 use Rattle.dr_turns.specs.Turns.{exit_reason, executed, after_op, after_exit}
 use Rattle.dr_schedule_law.specs.Reaps.{reaped}
@@ -45,10 +45,10 @@ op_turn e v is = cc
 
 -- what each event of a vCPU's turn keeps, the pushes of its buffer keep
 pub by_pushed : (P : List Event → Type 0) (v n : ℕ) (past : List Event) → P past
-    → ((e : Event) (xs : List Event) → turn_of e ≡ Some v → P xs → P (e ∷ xs)) → P (pushed_behind v n past)
+    → ((e : Event) (xs : List Event) → turn_of e ≡ Some v → P xs → P (e ∷ xs)) → P (pushed_after v n past)
 by_pushed P v zero past h on = h
 by_pushed P v (suc n) past h on =
-    on (Pushed v (pushes v (pushed_behind v n past))) (pushed_behind v n past) refl (by_pushed P v n past h on)
+    on (Pushed v (pushes v (pushed_after v n past))) (pushed_after v n past) refl (by_pushed P v n past h on)
 
 -- .. a turn in which it executes keeps
 pub by_op : (P : List Event → Type 0) (guest : Guest) (past : List Event) (v : ℕ) → P past
@@ -77,7 +77,7 @@ pub by_exited : (P : List Event → Type 0) (guest : Guest) (past : List Event) 
 by_exited P guest past v h on =
     by_test P (in_guest v past) (after_exit guest v past) past (by_exit P guest past v h on) h
 
--- what holds behind each kind of block
+-- what holds after each kind of block
 pub record Keeps (P : List Event → Type 0) (guest : Guest) (now : ℕ) (past : List Event) : Type 0 where
   pub exits : (v : ℕ) → P (exited guest v past)
   pub executes : (v : ℕ) → P (after_op guest v past)
@@ -100,7 +100,7 @@ due_keeps P guest now past (advance.NotReset v k) new each h = each.reaps None
 due_keeps P guest now past advance.NotFlushed new each h = each.flushes
 due_keeps P guest now past a new each h = h
 
--- what holds behind each kind of block holds behind the next one
+-- what holds after each kind of block holds after the next one
 pub by_block : (P : List Event → Type 0) (guest : Guest) (now : ℕ) (call : Call) (past : List Event)
     → Keeps P guest now past → P (block guest now call past).past
 by_block P guest now rest past each =

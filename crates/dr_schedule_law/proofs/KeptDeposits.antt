@@ -12,7 +12,7 @@ use Rattle.dr_history.specs.Vcpus.{in_guest}
 use Rattle.dr_history_law.specs.Room.{unpushed}
 use Rattle.dr_turns_law.proofs.Whole.{advanced_is_aside}
 use Rattle.dr_turns_law.proofs.Executing.{by_executed}
-use Rattle.dr_turns.specs.Buffers.{pushed_behind, all_pushed}
+use Rattle.dr_turns.specs.Buffers.{pushed_after, all_pushed}
 use Rattle.dr_turns.specs.Due.{advanced}
 use Rattle.dr_turns.specs.Turns.{executed, after_op, after_exit}
 use Rattle.dr_schedule_law.specs.Reaps.{AreFirstDeposited, AreDepositedUpTo}
@@ -58,7 +58,7 @@ op_deposits (Halted w i) v u k past is = refl
 op_deposits e v u k past is = cc
 
 pushed_deposits : (v n u k : ℕ) (past : List Event) → list_any (deposits_entry u k)
-    (pushed_behind v n past) ≡ list_any (deposits_entry u k) past
+    (pushed_after v n past) ≡ list_any (deposits_entry u k) past
 pushed_deposits v zero u k past = refl
 pushed_deposits v (suc n) u k past = pushed_deposits v n u k past
 

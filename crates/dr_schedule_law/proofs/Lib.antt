@@ -30,7 +30,7 @@ pub mod Answered
 pub mod Copied
 pub mod Rounds
 pub mod Told
-pub mod Behind
+pub mod After
 pub mod Once
 pub mod Runs
 pub mod Ends

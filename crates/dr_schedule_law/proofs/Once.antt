@@ -10,16 +10,16 @@ use Rattle.dr_history_law.proofs.Answer.{asked_number}
 use Rattle.dr_history_law.proofs.Kept.{syncs_facts}
 use Rattle.dr_history_law.proofs.Switch.{number_some}
 use Rattle.dr_schedule_law.proofs.Answered.{is_quiet}
-use Rattle.dr_schedule_law.proofs.Behind.{asks_behind, none_asked}
+use Rattle.dr_schedule_law.proofs.After.{asks_after, none_asked}
 
--- behind the answer of a round comes no other of it
-none_behind : (guest : Guest) (later : List Event) (r at t : ℕ) (pages others : List ℕ) (earlier : List Event)
+-- after the answer of a round comes no other of it
+none_after : (guest : Guest) (later : List Event) (r at t : ℕ) (pages others : List ℕ) (earlier : List Event)
     → IsLegalSoFar guest (Synced r t others ∷ (later ++ Synced r at pages ∷ earlier)) → ⊥
-none_behind guest later r at t pages others earlier legal =
+none_after guest later r at t pages others earlier legal =
     let past : List Event = later ++ Synced r at pages ∷ earlier in
     let facts = syncs_facts guest past r t others legal.0 in
     let number = asked_number guest past r legal.1 facts.asked in
-    let sum = asks_behind guest later r at pages earlier legal.1 in
+    let sum = asks_after guest later r at pages earlier legal.1 in
     let none = none_asked later (omega (arith, number, sum)) in
     let quiet = is_quiet guest later r at pages earlier legal.1 none in
     true≢false (sym (number_some r (unanswered past) facts.asked) ∙ quiet.answered)
@@ -33,12 +33,12 @@ same_answer guest [] [] r at t pages others before earlier legal is = cc
 same_answer guest [] (y ∷ ys) r at t pages others before earlier legal is =
     let rest : before ≡ ys ++ Synced r t others ∷ earlier = cc in
     absurd
-    (none_behind guest ys r t at others pages earlier
+    (none_after guest ys r t at others pages earlier
     (subst (λ (zs : List Event). IsLegalSoFar guest (Synced r at pages ∷ zs)) rest legal))
 same_answer guest (x ∷ xs) [] r at t pages others before earlier legal is =
     let first : x ≡ Synced r t others = cc in
     absurd
-    (none_behind guest xs r at t pages others before
+    (none_after guest xs r at t pages others before
     (subst (λ (e : Event). IsLegalSoFar guest (e ∷ (xs ++ Synced r at pages ∷ before))) first legal))
 same_answer guest (x ∷ xs) (y ∷ ys) r at t pages others before earlier legal is =
     let rest : xs ++ Synced r at pages ∷ before ≡ ys ++ Synced r t others ∷ earlier = cc in

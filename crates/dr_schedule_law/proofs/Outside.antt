@@ -40,7 +40,7 @@ own_exit guest past v w why kept same =
 added : (a b : ℕ) → a ≤ b + 0 → a ≤ b
 added a b h = omega (arith, h)
 
--- a vCPU that is out has pushed all that it opened, but directly behind an Opened
+-- a vCPU that is out has pushed all that it opened, but directly after an Opened
 pub outside_pushed : (guest : Guest) (past : List Event) (v : ℕ) → IsLegalSoFar guest past
     → in_guest v past ≡ false → opens v past ≤ pushes v past + cond (last_opens_for v past) 1 0
 outside_pushed guest [] v legal h = omega arith

@@ -14,7 +14,7 @@ use Rattle.dr_history.specs.Legality.{IsLegalSoFar}
 use Rattle.dr_history.specs.Lookback.{before}
 use Rattle.dr_history.specs.Vcpus.{in_guest, is_full, kicked}
 use Rattle.dr_history_law.specs.Room.{unpushed}
-use Rattle.dr_turns.specs.Buffers.{pushed_behind, all_pushed}
+use Rattle.dr_turns.specs.Buffers.{pushed_after, all_pushed}
 use Rattle.dr_turns.specs.Firsts.{first_kicked, first_unreset}
 use Rattle.dr_turns.specs.Turns.{executed, after_op, after_exit}
 use Rattle.dr_turns_law.proofs.Buffers.{own_pushes}
@@ -29,7 +29,7 @@ use Rattle.dr_schedule_law.proofs.Reaped.{reap_uses_none}
 use Rattle.dr_schedule_law.proofs.Reaping.{by_test}
 
 -- the buffer's pushes are no fewer events
-pushed_longer : (v n : ℕ) (past : List Event) → length past ≤ length (pushed_behind v n past)
+pushed_longer : (v n : ℕ) (past : List Event) → length past ≤ length (pushed_after v n past)
 pushed_longer v zero past = omega arith
 pushed_longer v (suc n) past = let before = pushed_longer v n past in omega (arith, before)
 
@@ -100,11 +100,11 @@ reap_more_when_full guest whose starts past v valid legal step lt is full =
     let room = valid.settings.room in
     reap_more guest whose starts past v legal step lt is (omega (arith, many, room))
 
-resets_pushed : (v u n : ℕ) (past : List Event) → resets u (pushed_behind v n past) ≡ resets u past
+resets_pushed : (v u n : ℕ) (past : List Event) → resets u (pushed_after v n past) ≡ resets u past
 resets_pushed v u zero past = refl
 resets_pushed v u (suc n) past = resets_pushed v u n past
 
--- a full ring is full behind the vCPU's exit
+-- a full ring is full after the vCPU's exit
 pub full_exited : (guest : Guest) (past : List Event) (v : ℕ) → is_full guest v past ≡ true
     → is_full guest v (exited guest v past) ≡ true
 full_exited guest past v full =

@@ -25,7 +25,7 @@ reset_step guest whose starts past legal step =
     (rests_deposited whose (vcpu_count guest) past) (deposits_moved guest whose starts past legal step)
     (λ v k xs. same_deposits guest (starts_after whose starts past) xs (Reset v k ∷ xs) (λ u j. refl))
 
--- behind a reap all that was pushed is deposited, of each vCPU that is reaped, and of the others what was
+-- after a reap all that was pushed is deposited, of each vCPU that is reaped, and of the others what was
 pub reap_moves_deposits : (guest : Guest) (whose : Option ℕ) (starts : ℕ → ℕ) (past : List Event)
     → IsLegalSoFar guest past → AreDepositedUpTo guest starts past
     → AreDepositedUpTo guest (starts_after whose starts past) (reaped guest whose past)
@@ -62,7 +62,7 @@ none_used v n past first none le =
     let all : n ≤ resets v past = ltb-false (resets v past) n (sym (first.is (resets v past)) ∙ none) in
     omega (arith, all, le)
 
--- behind a reap no entry is used of a vCPU that is reaped
+-- after a reap no entry is used of a vCPU that is reaped
 pub reap_uses_none : (guest : Guest) (whose : Option ℕ) (starts : ℕ → ℕ) (past : List Event) (v : ℕ)
     → IsLegalSoFar guest past → AreDepositedUpTo guest starts past → v < vcpu_count guest
     → is_reaped whose v ≡ true → used v (reaped guest whose past) ≡ 0

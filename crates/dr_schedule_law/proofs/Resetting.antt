@@ -8,7 +8,7 @@ use Rattle.dr_history.specs.declared.event.Event.TheVariants.{Reset}
 use Rattle.dr_history.specs.Entries.{pushes, resets, used}
 use Rattle.dr_history.specs.Rules.{deposits_entry}
 use Rattle.dr_turns_law.specs.Deposits.{next_deposited}
-use Rattle.dr_schedule_law.specs.Settled.{reset_behind, ResetsAll, ResetsBelow}
+use Rattle.dr_schedule_law.specs.Settled.{reset_after, ResetsAll, ResetsBelow}
 use Rattle.dr_schedule_law.specs.Reaps.{reset_while, all_reset, all_reset_below}
 use Rattle.dr_schedule_law.proofs.Reaping.{by_test, by_all_reset}
 
@@ -25,38 +25,38 @@ next_pushed : (v : ℕ) (past : List Event) → AreDepositsPushed v past → nex
 unfolding next_deposited
 next_pushed v past pushed due = pushed.each (resets v past) due
 
-pushed_behind : (v n : ℕ) (past : List Event) → AreDepositsPushed v past
-    → AreDepositsPushed v (reset_behind v n past)
-pushed_behind v zero past pushed = pushed
-pushed_behind v (suc n) past pushed =
-    pushed_reset v v (resets v (reset_behind v n past)) (reset_behind v n past)
-    (pushed_behind v n past pushed)
+pushed_after : (v n : ℕ) (past : List Event) → AreDepositsPushed v past
+    → AreDepositsPushed v (reset_after v n past)
+pushed_after v zero past pushed = pushed
+pushed_after v (suc n) past pushed =
+    pushed_reset v v (resets v (reset_after v n past)) (reset_after v n past)
+    (pushed_after v n past pushed)
 
-pushes_behind : (v n : ℕ) (past : List Event) → pushes v (reset_behind v n past) ≡ pushes v past
-pushes_behind v zero past = refl
-pushes_behind v (suc n) past = pushes_behind v n past
+pushes_after : (v n : ℕ) (past : List Event) → pushes v (reset_after v n past) ≡ pushes v past
+pushes_after v zero past = refl
+pushes_after v (suc n) past = pushes_after v n past
 
 -- a Reset of the vCPU counts
 resets_own : (v k : ℕ) (past : List Event) → resets v (Reset v k ∷ past) ≡ resets v past + 1
 resets_own v k past = rw (eq-eqb v v refl) refl
 
-resets_behind : (v n : ℕ) (past : List Event) → resets v (reset_behind v n past) ≡ resets v past + n
-resets_behind v zero past = omega arith
-resets_behind v (suc n) past =
-    resets_own v (resets v (reset_behind v n past)) (reset_behind v n past)
-    ∙ (let before = resets_behind v n past in omega (arith, before))
+resets_after : (v n : ℕ) (past : List Event) → resets v (reset_after v n past) ≡ resets v past + n
+resets_after v zero past = omega arith
+resets_after v (suc n) past =
+    resets_own v (resets v (reset_after v n past)) (reset_after v n past)
+    ∙ (let before = resets_after v n past in omega (arith, before))
 
 -- no more entries are reset than are used
 pub resets_few : (v n : ℕ) (past : List Event) → AreDepositsPushed v past
-    → ((k : ℕ) → k < n → next_deposited v (reset_behind v k past) ≡ true) → n ≤ used v past
+    → ((k : ℕ) → k < n → next_deposited v (reset_after v k past) ≡ true) → n ≤ used v past
 resets_few v zero past pushed due = omega arith
 resets_few v (suc n) past pushed due =
-    let lt : resets v (reset_behind v n past) < pushes v (reset_behind v n past) =
-    next_pushed v (reset_behind v n past) (pushed_behind v n past pushed) (due n (omega arith)) in
-    omega (arith, lt, resets_behind v n past, pushes_behind v n past)
+    let lt : resets v (reset_after v n past) < pushes v (reset_after v n past) =
+    next_pushed v (reset_after v n past) (pushed_after v n past pushed) (due n (omega arith)) in
+    omega (arith, lt, resets_after v n past, pushes_after v n past)
 
 -- the first of some resets stands first
-pub reset_first : (v n : ℕ) (past : List Event) → reset_behind v (suc n) past ≡ reset_behind v n
+pub reset_first : (v n : ℕ) (past : List Event) → reset_after v (suc n) past ≡ reset_after v n
     (Reset v (resets v past) ∷ past)
 reset_first v zero past = refl
 reset_first v (suc n) past = ap (λ (xs : List Event). Reset v (resets v xs) ∷ xs) (reset_first v n past)
@@ -67,9 +67,9 @@ while_none false xs past h = refl
 
 -- resets until the next entry isn't deposited are all that come while it is
 while_all : (v n fuel : ℕ) (past : List Event)
-    → ((k : ℕ) → k < n → next_deposited v (reset_behind v k past) ≡ true)
-    → next_deposited v (reset_behind v n past) ≡ false → n ≤ fuel
-    → reset_while v fuel past ≡ reset_behind v n past
+    → ((k : ℕ) → k < n → next_deposited v (reset_after v k past) ≡ true)
+    → next_deposited v (reset_after v n past) ≡ false → n ≤ fuel
+    → reset_while v fuel past ≡ reset_after v n past
 while_all v zero zero past due none le = refl
 while_all v zero (suc fuel) past due none le =
     while_none (next_deposited v past) (reset_while v fuel (Reset v (resets v past) ∷ past)) past none
@@ -142,7 +142,7 @@ while_others v w (suc fuel) past not =
     (while_others v w fuel (Reset w (resets w past) ∷ past) not ∙ other_reset v w (resets w past) past not)
     refl
 
--- behind the resets of the first vCPUs the next entry of each isn't deposited
+-- after the resets of the first vCPUs the next entry of each isn't deposited
 pub all_none : (n v : ℕ) (past : List Event) → ((u : ℕ) → u < n → AreDepositsPushed u past) → v < n
     → next_deposited v (all_reset_below n past) ≡ false
 all_none zero v past pushed lt = absurd (omega (arith, lt))

@@ -13,7 +13,7 @@ use Rattle.dr_history_law.proofs.Outstanding.{deposited_pushed}
 use Rattle.dr_turns_law.proofs.Firsts.{first_found}
 use Rattle.dr_turns_law.specs.Deposits.{first_twice}
 use Rattle.dr_turns.specs.Firsts.{first_below}
-use Rattle.dr_schedule_law.specs.Settled.{range_of, fresh_behind, deposited_one}
+use Rattle.dr_schedule_law.specs.Settled.{range_of, fresh_after, deposited_one}
 use Rattle.dr_schedule_law.specs.Reaps.{AreFirstDeposited, rest_from, first_undeposited, deposited_from, rest_deposited}
 
 -- no more is deposited than pushed
@@ -62,11 +62,11 @@ fresh_from v n to past first =
     (λ le. first.is k ∙ le-ltb k n (leb-true n k le)))
 
 empty_case : (v n p : ℕ) (past : List Event) (twice : Option ℕ) → p ≡ n
-    → cond (p - n == 0) past (fresh_behind (range_of v n (p - n)) twice past) ≡ past
+    → cond (p - n == 0) past (fresh_after (range_of v n (p - n)) twice past) ≡ past
 empty_case v n p past twice is = rw (eq-eqb (p - n) 0 (omega (arith, is))) refl
 
 some_case : (v n p : ℕ) (past : List Event) (twice : Option ℕ) → n < p → twice ≡ None
-    → cond (p - n == 0) past (fresh_behind (range_of v n (p - n)) twice past) ≡ Deposited v n p ∷ past
+    → cond (p - n == 0) past (fresh_after (range_of v n (p - n)) twice past) ≡ Deposited v n p ∷ past
 some_case v n p past twice lt none =
     let end : n + (p - n) ≡ p = omega (arith, lt) in
     rw (ne_eqb (p - n) 0 (λ e. omega (arith, e, lt)), none, end) refl

@@ -53,7 +53,7 @@ answers_few guest (Synced r at pages ∷ past) legal =
 answers_few guest (Asked r ∷ past) legal = omega (arith, answers_few guest past legal.1)
 answers_few guest (e ∷ past) legal = answers_few guest past legal.1
 
--- a throttle of the vCPU is still to come behind the last answer
+-- a throttle of the vCPU is still to come after the last answer
 abbrev is_pending : ℕ → Option ℕ → Bool
 is_pending v None = false
 is_pending v (Some w) = nat_le w v
@@ -91,7 +91,7 @@ throttle_case : (v w t s : ℕ) (o : Option ℕ) → o ≡ Some w → t + flag (
     → cond (w == v) (t + 1) t + flag (is_pending v (one_after w o)) ≤ s
 throttle_case v w t s o is h = rw (is, eq-eqb w w refl) (turn_case v w t s (rw is at h))
 
--- each vCPU is throttled once behind an answer
+-- each vCPU is throttled once after an answer
 pub throttles_few : (guest : Guest) (past : List Event) (v : ℕ) → IsLegalSoFar guest past
     → throttles v past + flag (is_pending v (next_throttled past)) ≤ answers past
 throttles_few guest [] v legal = omega arith
@@ -138,7 +138,7 @@ copy_within guest past r page legal h =
     number_within page (copies past) (pages_of (last_synced past))
     (sym (next_copy guest past page legal) ∙ copy_facts guest past r page h)
 
--- no more copies come behind an answer than it has pages
+-- no more copies come after an answer than it has pages
 copies_few : (guest : Guest) (past : List Event) → IsLegalSoFar guest past
     → copies past ≤ length (pages_of (last_synced past))
 copies_few guest [] legal = omega arith
@@ -161,32 +161,32 @@ copied_case true c k s pages is h = omega arith
 copied_case false c k s pages is h = absurd (false≢true is)
 
 -- all copies: those since the last answer, and for each answer before it as many as the guest has pages
-copied_behind : (guest : Guest) (past : List Event) → IsLegalSoFar guest past
+copied_after : (guest : Guest) (past : List Event) → IsLegalSoFar guest past
     → count is_copied past + page_count guest
     ≤ page_count guest * answers past + cond (is_some (last_synced past)) (copies past) (page_count guest)
-copied_behind guest [] legal = omega arith
-copied_behind guest (Synced r at pages ∷ past) legal =
+copied_after guest [] legal = omega arith
+copied_after guest (Synced r at pages ∷ past) legal =
     synced_case (is_some (last_synced past)) (count is_copied past) (copies past) (answers past)
     (page_count guest)
     (omega (arith, copies_few guest past legal.1, answered_few guest past legal.1))
-    (copied_behind guest past legal.1)
-copied_behind guest (Copied r page ∷ past) legal =
+    (copied_after guest past legal.1)
+copied_after guest (Copied r page ∷ past) legal =
     copied_case (is_some (last_synced past)) (count is_copied past) (copies past) (answers past)
     (page_count guest)
     (pages_some (last_synced past) (omega (arith, copy_within guest past r page legal.1 legal.0)))
-    (copied_behind guest past legal.1)
-copied_behind guest (e ∷ past) legal = copied_behind guest past legal.1
+    (copied_after guest past legal.1)
+copied_after guest (e ∷ past) legal = copied_after guest past legal.1
 
 copied_few_case : (some : Bool) (c k s pages : ℕ) → k ≤ pages → c + pages ≤ pages * s + cond some k pages
     → c ≤ pages * s
 copied_few_case true c k s pages le h = omega arith
 copied_few_case false c k s pages le h = omega arith
 
--- each page is copied once at most behind each answer
+-- each page is copied once at most after each answer
 pub copied_few : (guest : Guest) (past : List Event) → IsLegalSoFar guest past
     → count is_copied past ≤ page_count guest * answers past
 copied_few guest past legal =
     copied_few_case (is_some (last_synced past)) (count is_copied past) (copies past) (answers past)
     (page_count guest)
     (omega (arith, copies_few guest past legal, answered_few guest past legal))
-    (copied_behind guest past legal)
+    (copied_after guest past legal)

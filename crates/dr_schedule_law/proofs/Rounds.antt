@@ -17,7 +17,7 @@ use Rattle.dr_schedule_law.specs.Spent.{CopiesEach, IsLargeRound}
 use Rattle.dr_schedule_law.proofs.Answered.{LastAnswer, last_answer, answers_last, ran_before}
 use Rattle.dr_schedule_law.proofs.Copied.{copies_each, one_more}
 
--- a large round stays one behind a further event
+-- a large round stays one after a further event
 pub large_on : (guest : Guest) (past : List Event) (r : ℕ) (e : Event) → IsLargeRound guest past r
     → IsLargeRound guest (e ∷ past) r
 large_on guest past r e round = record {

@@ -19,7 +19,7 @@ use Rattle.dr_event_law.proofs.Rounds.{asks_few, asked_synced, synced_started}
 use Rattle.dr_turns.specs.Due.{round_of}
 use Rattle.dr_schedule_law.specs.Spent.{AreSpent, IsLargeRound}
 use Rattle.dr_schedule_law.proofs.Answered.{LastAnswer, answers_last, last_answer}
-use Rattle.dr_schedule_law.proofs.Behind.{is_unasked}
+use Rattle.dr_schedule_law.proofs.After.{is_unasked}
 use Rattle.dr_schedule_law.proofs.Once.{same_answer}
 
 -- where the rules let the guest be stopped, the last answer has at most `threshold` pages
@@ -85,7 +85,7 @@ few_at_stop guest past legal =
     (answers_last guest past legal.1 quiet some) in
     few_last guest past answer number one (omega (arith, within)) few
 
--- a history that has such a round has it behind a further event too
+-- a history that has such a round has it after a further event too
 few_on : (guest : Guest) (past : List Event) (e : Event) → HasFewRound guest past
     → HasFewRound guest (e ∷ past)
 few_on guest past e round = record {
@@ -128,7 +128,7 @@ spent_runs guest past legal spent =
     let few = stopped_few guest past legal stop in
     few_or_large guest past legal few (spent.rounds few.r few.one few.within))
 
--- what began before some events has begun behind them
+-- what began before some events has begun after them
 still_started : (later earlier : List Event) → started earlier ≡ true → started (later ++ earlier) ≡ true
 still_started later earlier h =
     list_any-append is_start later earlier ∙ or_right (started later) (started earlier) h

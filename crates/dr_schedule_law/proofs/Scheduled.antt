@@ -29,19 +29,19 @@ blocks_append : (guest : Guest) (from : Point) (later earlier : List ℕ)
 blocks_append guest from [] earlier = refl
 blocks_append guest from (now ∷ later) earlier = ap (next_block guest now) (blocks_append guest from later earlier)
 
--- blocks behind those that came
-blocks_behind : (guest : Guest) (first past : List Event) (later : List ℕ) (it : Follows guest first past)
+-- blocks after those that came
+blocks_after : (guest : Guest) (first past : List Event) (later : List ℕ) (it : Follows guest first past)
     → blocks_from guest (point rest first) (later ++ it.times) ≡ blocks_from guest (point rest past) later
-blocks_behind guest first past later it =
+blocks_after guest first past later it =
     blocks_append guest (point rest first) later it.times
     ∙ ap (λ (p : Point). blocks_from guest p later) it.blocks
 
 -- blocks came, and then some more
 pub follows_then : (guest : Guest) (first mid last : List Event) → Follows guest first mid
     → Follows guest mid last → Follows guest first last
-follows_then guest first mid last before behind = record {
-  times = behind.times ++ before.times;
-  blocks = blocks_behind guest first mid behind.times before ∙ behind.blocks;
+follows_then guest first mid last before after = record {
+  times = after.times ++ before.times;
+  blocks = blocks_after guest first mid after.times before ∙ after.blocks;
 }
 
 -- one block, that calls for nothing
@@ -144,12 +144,12 @@ scheduled_cut guest past it = record {
 }
 
 -- blocks came, and then some that are cut
-pub cut_behind : (guest : Guest) (first mid last : List Event) → Follows guest first mid
+pub cut_after : (guest : Guest) (first mid last : List Event) → Follows guest first mid
     → CutAtTurn guest mid last → CutAtTurn guest first last
-cut_behind guest first mid last before cut = record {
+cut_after guest first mid last before cut = record {
   times = cut.times ++ before.times;
   at = cut.at;
-  blocks = blocks_behind guest first mid cut.times before ∙ cut.blocks;
+  blocks = blocks_after guest first mid cut.times before ∙ cut.blocks;
   last = cut.last;
 }
 

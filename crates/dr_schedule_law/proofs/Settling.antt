@@ -28,7 +28,7 @@ few : (guest : Guest) (starts : ℕ → ℕ) (past : List Event) → IsLegalSoFa
     → AreDepositedUpTo guest starts past → (v : ℕ) → v < vcpu_count guest → starts v ≤ pushes v past
 few guest starts past legal step v lt = deposited_few guest past v (starts v) legal (step.each v lt)
 
--- behind the deposits of a reap each vCPU's number is that after the reap
+-- after the deposits of a reap each vCPU's number is that after the reap
 pub deposits_moved : (guest : Guest) (whose : Option ℕ) (starts : ℕ → ℕ) (past : List Event)
     → IsLegalSoFar guest past → AreDepositedUpTo guest starts past
     → AreDepositedUpTo guest (starts_after whose starts past) (rests_deposited whose (vcpu_count guest) past)

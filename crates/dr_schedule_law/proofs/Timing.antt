@@ -17,8 +17,8 @@ use Rattle.dr_turns_law.proofs.Cases.{advanced_cases}
 use Rattle.dr_turns_law.proofs.Executing.{by_executed}
 use Rattle.dr_turns.specs.declared.answers.Advance.{Advance}
 use Rattle.dr_turns.specs.declared.answers.Advance.TheVariants as advance
-use Rattle.dr_turns.specs.Buffers.{pushed_behind, all_pushed}
-use Rattle.dr_turns.specs.Due.{advanced, throttled_behind, answered_behind, copies_from, round_of}
+use Rattle.dr_turns.specs.Buffers.{pushed_after, all_pushed}
+use Rattle.dr_turns.specs.Due.{advanced, throttled_after, answered_after, copies_from, round_of}
 use Rattle.dr_turns.specs.Turns.{executed, after_op, after_exit}
 use Rattle.dr_schedule_law.specs.Reaps.{IsReap, reaped}
 use Rattle.dr_schedule_law.specs.Schedule.{Point, point, Call, exited, call_after_op, vcpu_block, due_block, reaps_after_full, block, next_block}
@@ -34,7 +34,7 @@ op_untimed (Local w i) v past is = refl
 op_untimed (Halted w i) v past is = refl
 op_untimed e v past is = cc
 
-pushed_untimed : (v n : ℕ) (past : List Event) → times (pushed_behind v n past) ≡ times past
+pushed_untimed : (v n : ℕ) (past : List Event) → times (pushed_after v n past) ≡ times past
 pushed_untimed v zero past = refl
 pushed_untimed v (suc n) past = pushed_untimed v n past
 
@@ -73,16 +73,16 @@ reap_times guest whose past =
     by_reaped (λ (xs : List Event). times xs ≡ times past) guest whose past refl (reap_untimed past)
 
 throttled_untimed : (guest : Guest) (n : ℕ) (past : List Event)
-    → times (throttled_behind guest n past) ≡ times past
+    → times (throttled_after guest n past) ≡ times past
 throttled_untimed guest zero past = refl
 throttled_untimed guest (suc n) past = throttled_untimed guest n past
 
 answered_times : (guest : Guest) (r now : ℕ) (past : List Event)
-    → times (answered_behind guest r now past) ≡ now ∷ times past
+    → times (answered_after guest r now past) ≡ now ∷ times past
 answered_times guest r now past =
     by_test (λ (xs : List Event). times xs ≡ now ∷ times past)
     (nat_le 1 guest.settings.quota && not (stopped past))
-    (throttled_behind guest (vcpu_count guest) (Synced r now (dirty_pages guest past) ∷ past))
+    (throttled_after guest (vcpu_count guest) (Synced r now (dirty_pages guest past) ∷ past))
     (Synced r now (dirty_pages guest past) ∷ past)
     (throttled_untimed guest (vcpu_count guest) (Synced r now (dirty_pages guest past) ∷ past)) refl
 

@@ -35,10 +35,10 @@ writes_few (e ∷ past) v =
     fewer_case (is_write_of v e) (is_op_of v e) (writes v past) (ops v past) (write_is_op v e)
     (writes_few past v)
 
--- an entry is pushed behind the write that it was opened for
-push_behind : (guest : Guest) (past : List Event) (w k : ℕ) → IsLegalSoFar guest past
+-- an entry is pushed after the write that it was opened for
+push_after : (guest : Guest) (past : List Event) (w k : ℕ) → IsLegalSoFar guest past
     → broken guest past (Pushed w k) ≡ None → pushes w past < ops w past
-push_behind guest past w k legal h =
+push_after guest past w k legal h =
     let facts = pushes_facts guest past w k h in
     let number : k ≡ pushes w past = facts.number in
     let opened : k < opens w past = facts.opened in
@@ -54,7 +54,7 @@ pushes_few guest [] v legal = omega arith
 pushes_few guest (Pushed w k ∷ past) v legal =
     one_more (w == v) (pushes v past) (ops v past)
     (λ s. subst (λ (u : ℕ). pushes u past < ops u past) (eqb-true w v s)
-    (push_behind guest past w k legal.1 legal.0))
+    (push_after guest past w k legal.1 legal.0))
     (pushes_few guest past v legal.1)
 pushes_few guest (e ∷ past) v legal =
     more (is_op_of v e) (pushes v past) (ops v past) (pushes_few guest past v legal.1)

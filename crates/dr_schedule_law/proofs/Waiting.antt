@@ -18,7 +18,7 @@ use Rattle.dr_history_law.proofs.Switch.{unanswered_started}
 use Rattle.dr_event_law.proofs.Rounds.{stopped_started}
 use Rattle.dr_turns.specs.declared.answers.Advance.{Advance}
 use Rattle.dr_turns.specs.declared.answers.Advance.TheVariants as advance
-use Rattle.dr_turns.specs.Due.{advanced, begun, some_closing, answered_behind, reset_answer, answered, page_to_copy, zeros_to_copy, copied_together, round_of, asked, asked_where_paced, next_round, after_stop, after_copies, copied, answered_or_copied}
+use Rattle.dr_turns.specs.Due.{advanced, begun, some_closing, answered_after, reset_answer, answered, page_to_copy, zeros_to_copy, copied_together, round_of, asked, asked_where_paced, next_round, after_stop, after_copies, copied, answered_or_copied}
 use Rattle.dr_turns.specs.Firsts.{first_unpaced, first_kicked, first_unreset}
 use Rattle.dr_turns_law.proofs.Found.{first_some}
 use Rattle.dr_schedule_law.specs.Waiting.{AwaitsOp, Awaits}
@@ -80,7 +80,7 @@ reset_waits : (guest : Guest) (now r : ℕ) (past : List Event) (o : Option ℕ)
     → Awaits guest past (reset_answer guest now r past o).0
 reset_waits guest now r past None is out first =
     if_case (AwaitsFirst guest past) (some_closing guest past) (advance.NotFlushed, past)
-    (advance.Answered r (length (dirty_pages guest past)), answered_behind guest r now past) (λ h. h)
+    (advance.Answered r (length (dirty_pages guest past)), answered_after guest r now past) (λ h. h)
     (λ h. tt)
 reset_waits guest now r past (Some v) is out first =
     record { asked = ap (λ (o : Option ℕ). is_some o) is; out = out; first = first; number = refl }

@@ -46,7 +46,7 @@ abbrev pub answers : List Event → ℕ
 answers past = count is_synced past
 
 -- the vCPU's events, where an operation stands also for the Opened or the Filled that may come
--- directly before it, and a Reset also for the Flushed that may come behind it
+-- directly before it, and a Reset also for the Flushed that may come after it
 abbrev pub vcpu_events : ℕ → List Event → ℕ
 vcpu_events v past =
     2 * ops v past + pushes v past + exits v past + deposits v past + 2 * resets v past

@@ -68,7 +68,7 @@ IsReap (Reset v k) = Unit {0}
 IsReap Flushed = Unit {0}
 IsReap e = ⊥
 
--- the new events are the old ones with some more behind them
+-- the new events are the old ones with some more after them
 pub record Extends (old new : List Event) : Type 0 where
   pub more : List Event
   pub parts : new ≡ more ++ old

@@ -75,7 +75,7 @@ block guest now (leave v) past = point rest (exited guest v past)
 block guest now rest past = due_block guest past (advanced guest now past)
 
 -- The point after the next block, the first of these that applies: the reap after an exit with a
--- full ring; the exit after a halt; what the next advance calls for, at this time. Behind the
+-- full ring; the exit after a halt; what the next advance calls for, at this time. After the
 -- switch-over, and where the rounds are spent, nothing follows: the point stays.
 unfoldable pub next_block : Guest → ℕ → Point → Point
 next_block guest now at = block guest now at.call at.past
@@ -95,7 +95,7 @@ pub record BeginsSchedule (guest : Guest) (past : List Event) : Type 0 where
   pub later : List Event
   pub scheduled : IsScheduled guest (later ++ past)
 
--- Behind the first of these events come blocks of the schedule, each the first that applies where
+-- After the first of these events come blocks of the schedule, each the first that applies where
 -- nothing was called for; the last of them calls for nothing.
 pub record Follows (guest : Guest) (first past : List Event) : Type 0 where
   pub times : List ℕ
@@ -114,7 +114,7 @@ pub record IsInReap (guest : Guest) (at : Point) (past : List Event) : Type 0 wh
   pub begun : Extends at.past past
   pub within : Extends past (next_block guest now at).past
 
--- Behind the first of these events come blocks of the schedule, cut at the end of a turn: the last
+-- After the first of these events come blocks of the schedule, cut at the end of a turn: the last
 -- may be some first events of a reap, each of which is a turn of its own. Each other block is one
 -- turn.
 pub record CutAtTurn (guest : Guest) (first past : List Event) : Type 0 where

@@ -20,15 +20,15 @@ abbrev pub range_of : ℕ → ℕ → ℕ → Range
 range_of vcpu first count = record { vcpu = vcpu; first = first; count = count }
 
 -- the range is deposited, where none of it was before
-abbrev pub fresh_behind : Range → Option ℕ → List Event → List Event
-fresh_behind r None past = Deposited r.vcpu r.first (r.first + r.count) ∷ past
-fresh_behind r (Some k) past = past
+abbrev pub fresh_after : Range → Option ℕ → List Event → List Event
+fresh_after r None past = Deposited r.vcpu r.first (r.first + r.count) ∷ past
+fresh_after r (Some k) past = past
 
 -- the range is deposited, unless it is empty or some of it was deposited before
 abbrev pub deposited_one : Range → List Event → List Event
 deposited_one r past =
     if r.count == 0 then past
-    else fresh_behind r (first_twice r.vcpu r.first past (r.first + r.count)) past
+    else fresh_after r (first_twice r.vcpu r.first past (r.first + r.count)) past
 
 -- each of these ranges, the first of the list first
 abbrev pub deposited_all : List Range → List Event → List Event
@@ -62,16 +62,16 @@ pub record DepositsPart (rs : List Range) (old new : List Event) : Type 0 where
   pub deposits : Deposits rs (next ∷ rest) old new
   pub fresh : IsFresh next new
 
--- behind these events so many Reset of the vCPU, each of its next entry
-abbrev pub reset_behind : ℕ → ℕ → List Event → List Event
-reset_behind v zero past = past
-reset_behind v (suc n) past =
-    Reset v (resets v (reset_behind v n past)) ∷ reset_behind v n past
+-- after these events so many Reset of the vCPU, each of its next entry
+abbrev pub reset_after : ℕ → ℕ → List Event → List Event
+reset_after v zero past = past
+reset_after v (suc n) past =
+    Reset v (resets v (reset_after v n past)) ∷ reset_after v n past
 
 -- so many Reset of the vCPU were appended, each of an entry that was deposited
 pub record Resets (v : ℕ) (old new : List Event) (n : ℕ) : Type 0 where
-  pub past : new ≡ reset_behind v n old
-  pub due : (k : ℕ) → k < n → next_deposited v (reset_behind v k old) ≡ true
+  pub past : new ≡ reset_after v n old
+  pub due : (k : ℕ) → k < n → next_deposited v (reset_after v k old) ≡ true
 
 -- some Reset of the vCPU were appended, and the next one is to be
 pub record ResetsSome (v : ℕ) (old new : List Event) : Type 0 where

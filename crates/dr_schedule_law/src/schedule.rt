@@ -21,7 +21,7 @@ pub fn no_block_follows()
     ensures { (guest : Guest) (past : List Event) → Follows guest past past }
 {}
 
-/// Blocks behind blocks.
+/// Blocks after blocks.
 pub fn blocks_follow_blocks()
     ensures { (guest : Guest) (first mid last : List Event) → Follows guest first mid
         → Follows guest mid last → Follows guest first last }
@@ -88,19 +88,19 @@ pub fn following_is_scheduled()
     ensures { (guest : Guest) (past : List Event) → Follows guest [] past → IsScheduled guest past }
 {}
 
-/// Behind whole blocks a turn has ended.
+/// After whole blocks a turn has ended.
 pub fn whole_blocks_are_cut_at_turn()
     ensures { (guest : Guest) (first past : List Event) → Follows guest first past
         → CutAtTurn guest first past }
 {}
 
-/// And so it has behind scheduled events, whatever the last block calls for.
+/// And so it has after scheduled events, whatever the last block calls for.
 pub fn schedule_is_cut_at_turn()
     ensures { (guest : Guest) (past : List Event) → IsScheduled guest past
         → CutAtTurn guest [] past }
 {}
 
-/// Blocks that are cut, behind whole ones.
+/// Blocks that are cut, after whole ones.
 pub fn cut_follows_blocks()
     ensures { (guest : Guest) (first mid last : List Event) → Follows guest first mid
         → CutAtTurn guest mid last → CutAtTurn guest first last }

@@ -39,7 +39,7 @@ run_drop (suc i) (Rep n body ∷ later) h = run_drop i later h.2
 from : (items : List Item) (i : ℕ) (item : Item) → i < length items → item ≡ get_or items i item → drop i items ≡ item ∷ drop (i + 1) items
 from items i item h e = drop-cons items i item h ∙ ap (λ x. x ∷ drop (suc i) items) (sym e) ∙ ap (λ k. item ∷ drop k items) (sym (add-one i))
 
--- nothing is read behind the end
+-- nothing is read after the end
 drop_end : (i : ℕ) (items : List Item) → length items ≤ i → drop i items ≡ []
 drop_end zero [] h = refl
 drop_end zero (x ∷ xs) h = absurd (omega arith)

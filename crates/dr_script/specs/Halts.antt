@@ -4,7 +4,7 @@ use Rattle.dr_types.specs.declared.guest.Guest.{Guest}
 use Rattle.dr_types.specs.declared.guest.Op.TheVariants.{Halt}
 use Rattle.dr_types.specs.Scripts.{script_of, operation}
 
--- the script has an operation, its last and no other is a halt, and behind that there is none
+-- the script has an operation, its last and no other is a halt, and after that there is none
 pub record HaltsLast (guest : Guest) (v : ℕ) : Type 0 where
   pub some : 1 ≤ length (script_of (slice_get guest.scripts v))
   pub last : (i : ℕ) → i + 1 ≡ length (script_of (slice_get guest.scripts v))

@@ -59,7 +59,7 @@ impl Reader {
         }
     }
 
-    /// Goes behind the next operation; at the end it stays there.
+    /// Goes after the next operation; at the end it stays there.
     #[tactic(auto, using(crate::proofs::Reading::turns))]
     pub fn advance(&mut self)
         ensures { self.new ≡ drop 1 self.old }

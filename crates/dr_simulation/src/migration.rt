@@ -52,7 +52,7 @@ fn round(alloc: Global, core: &mut Core) -> Result<(), CoreFault> {
     core.step(Event::Synced { r, at, pages })
 }
 
-/// A round before the stop, behind which the vCPUs are throttled.
+/// A round before the stop, after which the vCPUs are throttled.
 fn live_round(alloc: Global, core: &mut Core) -> Result<(), CoreFault> {
     round(alloc, core)?;
     throttle_all(core)
@@ -73,7 +73,7 @@ fn span(core: &mut Core, wanted: u64) -> Result<(), CoreFault> {
     copy(core, MOST_PAGES)
 }
 
-/// How many events there are to be when a round is asked: each round behind the first and before
+/// How many events there are to be when a round is asked: each round after the first and before
 /// the last has the same share.
 fn share(wanted: u32, r: u32, last: u32) -> u64
     requires { 2 ≤ last }
@@ -81,7 +81,7 @@ fn share(wanted: u32, r: u32, last: u32) -> u64
     u64::from(wanted) * u64::from(r) / u64::from(last - 1)
 }
 
-/// The rounds behind the first and before the last, up to an answer with few pages.
+/// The rounds after the first and before the last, up to an answer with few pages.
 fn middle_rounds(alloc: Global, core: &mut Core, wanted: u32) -> Result<(), CoreFault> {
     let last = rounds(core);
     for r in 2..last {

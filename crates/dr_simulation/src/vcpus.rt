@@ -35,7 +35,7 @@ fn get_permission(core: &mut Core, v: u32, page: u32) -> Result<(), CoreFault> {
     core.step(Event::Opened { v, k, page })
 }
 
-/// A store of 8 bytes. A full log buffer is pushed behind it.
+/// A store of 8 bytes. A full log buffer is pushed after it.
 fn store(core: &mut Core, v: u32, i: u32, addr: u64, value: u64) -> Result<(), CoreFault> {
     if let Some(page) = page_at(core, addr) {
         get_permission(core, v, page)?;

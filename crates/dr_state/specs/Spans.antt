@@ -24,7 +24,7 @@ pub record AreHeld (guest : Guest) (past : List Event)
 abbrev pub AreThrottles : Guest → List Event → Throttles → Type 0
 AreThrottles guest past it = AreHeld guest past it.next it.last it.list.items
 
--- no throttle is due behind the event, and no time is taken there
+-- no throttle is due after the event, and no time is taken there
 abbrev pub IsUnheld : Event → Type 0
 IsUnheld (Start at) = ⊥
 IsUnheld (Synced r at pages) = ⊥

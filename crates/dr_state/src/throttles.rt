@@ -117,7 +117,7 @@ impl Throttles {
     }
 }
 
-/// The number behind this one, where the other is this one.
+/// The number after this one, where the other is this one.
 fn one_after(w: u32, other: Option<u64>) -> Option<u64>
     ensures { result ≡ one_after w other }
 {

@@ -6,14 +6,14 @@ use Rattle.dr_history.specs.declared.event.Event.TheVariants.{Pushed}
 use Rattle.dr_history.specs.Entries.{pushes}
 use Rattle.dr_history_law.specs.Room.{unpushed}
 
--- behind these events so many Pushed of the vCPU, each of its next entry
-abbrev pub pushed_behind : ℕ → ℕ → List Event → List Event
-pushed_behind v zero past = past
-pushed_behind v (suc n) past = Pushed v (pushes v (pushed_behind v n past)) ∷ pushed_behind v n past
+-- after these events so many Pushed of the vCPU, each of its next entry
+abbrev pub pushed_after : ℕ → ℕ → List Event → List Event
+pushed_after v zero past = past
+pushed_after v (suc n) past = Pushed v (pushes v (pushed_after v n past)) ∷ pushed_after v n past
 
 -- its whole buffer is pushed, in order
 abbrev pub all_pushed : ℕ → List Event → List Event
-all_pushed v past = pushed_behind v (unpushed v past) past
+all_pushed v past = pushed_after v (unpushed v past) past
 
 -- it is pushed where it is full
 abbrev pub pushed_where_full : Guest → ℕ → List Event → List Event

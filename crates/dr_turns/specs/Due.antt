@@ -37,24 +37,24 @@ unfoldable pub some_closing : Guest → List Event → Bool
 some_closing guest past = list_any (λ page. closing page past) (below (page_count guest))
 
 -- the first n vCPUs are throttled
-abbrev pub throttled_behind : Guest → ℕ → List Event → List Event
-throttled_behind guest zero past = past
-throttled_behind guest (suc n) past =
-    let before = throttled_behind guest n past in
+abbrev pub throttled_after : Guest → ℕ → List Event → List Event
+throttled_after guest zero past = past
+throttled_after guest (suc n) past =
+    let before = throttled_after guest n past in
     Throttled n (throttle guest n before).us ∷ before
 
--- the answer, and behind it a throttle for each vCPU where there is a quota and the guest runs
-abbrev pub answered_behind : Guest → ℕ → ℕ → List Event → List Event
-answered_behind guest r now past =
+-- the answer, and after it a throttle for each vCPU where there is a quota and the guest runs
+abbrev pub answered_after : Guest → ℕ → ℕ → List Event → List Event
+answered_after guest r now past =
     let answer = Synced r now (dirty_pages guest past) ∷ past in
     if nat_le 1 guest.settings.quota && not (stopped past)
-    then throttled_behind guest (vcpu_count guest) answer else answer
+    then throttled_after guest (vcpu_count guest) answer else answer
 
 -- 2. The round that was asked is answered, where all are out, all is reset and nothing is closing.
 abbrev pub flushed_answer : Guest → ℕ → ℕ → List Event → Advance × List Event
 flushed_answer guest now r past =
     if some_closing guest past then (advance.NotFlushed, past)
-    else (advance.Answered r (length (dirty_pages guest past)), answered_behind guest r now past)
+    else (advance.Answered r (length (dirty_pages guest past)), answered_after guest r now past)
 
 abbrev pub reset_answer : Guest → ℕ → ℕ → List Event → Option ℕ → Advance × List Event
 reset_answer guest now r past None = flushed_answer guest now r past

@@ -38,22 +38,22 @@ op_step (Some (op.Nap us)) = step.Nap us
 op_step (Some op.Halt) = step.Halted
 op_step o = step.Plain
 
--- An op's event, behind what the page needs that it writes: nothing before Start or where the page
+-- An op's event, after what the page needs that it writes: nothing before Start or where the page
 -- is cached for the vCPU; a Filled where it is writable; else an Opened of the vCPU's next number.
-abbrev pub event_behind : ℕ → Event → Option ℕ → List Event → List Event
-event_behind v e None past = e ∷ past
-event_behind v e (Some page) past =
+abbrev pub event_after : ℕ → Event → Option ℕ → List Event → List Event
+event_after v e None past = e ∷ past
+event_after v e (Some page) past =
     if not (started past) || cached v page past then e ∷ past
     else if writable page past then e ∷ Filled v page ∷ past
     else e ∷ Opened v (opens v past) page ∷ past
 
-abbrev pub op_behind : Guest → ℕ → Option Op → List Event → List Event
-op_behind guest v None past = past
-op_behind guest v (Some o) past = event_behind v (op_event guest v past o) (op_page guest o) past
+abbrev pub op_after : Guest → ℕ → Option Op → List Event → List Event
+op_after guest v None past = past
+op_after guest v (Some o) past = event_after v (op_event guest v past o) (op_page guest o) past
 
 -- the vCPU's next op is executed
 unfoldable pub executed : Guest → ℕ → List Event → List Event
-executed guest v past = op_behind guest v (operation guest v (ops v past)) past
+executed guest v past = op_after guest v (operation guest v (ops v past)) past
 
 -- the events after the turn of a vCPU that executes: its next op, and then its buffer where it is
 -- full

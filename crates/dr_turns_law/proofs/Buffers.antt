@@ -16,7 +16,7 @@ use Rattle.dr_history_law.proofs.Outstanding.{pushed_opened}
 use Rattle.dr_event_law.specs.May.{MayFollow, AtRest}
 use Rattle.dr_event_law.proofs.Rest.{settles}
 use Rattle.dr_event_law.proofs.Legally.{pushes_legally}
-use Rattle.dr_turns.specs.Buffers.{pushed_behind, all_pushed, pushed_where_full}
+use Rattle.dr_turns.specs.Buffers.{pushed_after, all_pushed, pushed_where_full}
 use Rattle.dr_turns.specs.Between.{AtTurnsEnd, OthersFew}
 
 one_case : (same : Bool) (p n : ℕ) → cond same (p + cond same n 0 + 1) (p + cond same n 0) ≡ p + cond same (suc n) 0
@@ -28,50 +28,50 @@ none_more true p = omega arith
 none_more false p = omega arith
 
 -- so many are pushed more, by the vCPU alone
-pub pushes_pushed : (v u n : ℕ) (past : List Event) → pushes u (pushed_behind v n past) ≡ pushes u past + cond (v == u) n 0
+pub pushes_pushed : (v u n : ℕ) (past : List Event) → pushes u (pushed_after v n past) ≡ pushes u past + cond (v == u) n 0
 pushes_pushed v u zero past = none_more (v == u) (pushes u past)
 pushes_pushed v u (suc n) past = rw (pushes_pushed v u n past) (one_case (v == u) (pushes u past) n)
 
 -- so many are pushed more
-pub own_pushes : (v n : ℕ) (past : List Event) → pushes v (pushed_behind v n past) ≡ pushes v past + n
+pub own_pushes : (v n : ℕ) (past : List Event) → pushes v (pushed_after v n past) ≡ pushes v past + n
 own_pushes v n past = pushes_pushed v v n past ∙ ap (λ b. pushes v past + cond b n 0) (eq-eqb v v refl)
 
 -- none is opened
-pub opens_pushed : (v u n : ℕ) (past : List Event) → opens u (pushed_behind v n past) ≡ opens u past
+pub opens_pushed : (v u n : ℕ) (past : List Event) → opens u (pushed_after v n past) ≡ opens u past
 opens_pushed v u zero past = refl
 opens_pushed v u (suc n) past = opens_pushed v u n past
 
 -- no vCPU enters the guest or leaves it
-pub inside_pushed : (v u n : ℕ) (past : List Event) → in_guest u (pushed_behind v n past) ≡ in_guest u past
+pub inside_pushed : (v u n : ℕ) (past : List Event) → in_guest u (pushed_after v n past) ≡ in_guest u past
 inside_pushed v u zero past = refl
 inside_pushed v u (suc n) past = inside_pushed v u n past
 
--- behind each push the history is at rest
-pub rest_pushed : (guest : Guest) (v n : ℕ) (past : List Event) → AtRest guest past → AtRest guest (pushed_behind v n past)
+-- after each push the history is at rest
+pub rest_pushed : (guest : Guest) (v n : ℕ) (past : List Event) → AtRest guest past → AtRest guest (pushed_after v n past)
 rest_pushed guest v zero past h = h
-rest_pushed guest v (suc n) past h = settles guest (pushed_behind v n past) (Pushed v (pushes v (pushed_behind v n past))) tt (rest_pushed guest v n past h).here
+rest_pushed guest v (suc n) past h = settles guest (pushed_after v n past) (Pushed v (pushes v (pushed_after v n past))) tt (rest_pushed guest v n past h).here
 
 -- the reserve and the buffer of a valid guest fit into its ring
 pub valid_ring : (guest : Guest) → IsValid guest → FitsRing guest
 valid_ring guest valid = record { reserve = valid.settings.reserve_some; ring = valid.settings.room }
 
-some_left : (v n : ℕ) (past : List Event) → n < unpushed v past → pushes v (pushed_behind v n past) < opens v (pushed_behind v n past)
+some_left : (v n : ℕ) (past : List Event) → n < unpushed v past → pushes v (pushed_after v n past) < opens v (pushed_after v n past)
 some_left v n past lt = omega (arith, lt, own_pushes v n past, opens_pushed v v n past)
 
 -- a push finds a place of its ring that isn't in use
-pub finds_place : (guest : Guest) (past : List Event) (v n : ℕ) → IsValid guest → IsLegalSoFar guest (pushed_behind v n past) → n < unpushed v past → used v (pushed_behind v n past) < guest.settings.ring
-finds_place guest past v n valid legal lt = finds_room guest (pushed_behind v n past) v (valid_ring guest valid) legal (some_left v n past lt)
+pub finds_place : (guest : Guest) (past : List Event) (v n : ℕ) → IsValid guest → IsLegalSoFar guest (pushed_after v n past) → n < unpushed v past → used v (pushed_after v n past) < guest.settings.ring
+finds_place guest past v n valid legal lt = finds_room guest (pushed_after v n past) v (valid_ring guest valid) legal (some_left v n past lt)
 
 -- the next entry of the buffer is pushed by the rules
-pub next_follows : (guest : Guest) (past : List Event) (v n k : ℕ) → v < vcpu_count guest → IsValid guest → AtRest guest past → IsLegalSoFar guest (pushed_behind v n past) → n < unpushed v past → k ≡ pushes v past + n → MayFollow guest (pushed_behind v n past) (Pushed v k)
+pub next_follows : (guest : Guest) (past : List Event) (v n k : ℕ) → v < vcpu_count guest → IsValid guest → AtRest guest past → IsLegalSoFar guest (pushed_after v n past) → n < unpushed v past → k ≡ pushes v past + n → MayFollow guest (pushed_after v n past) (Pushed v k)
 next_follows guest past v n k hv valid rest legal lt is =
-    subst (λ (j : ℕ). MayFollow guest (pushed_behind v n past) (Pushed v j)) (own_pushes v n past ∙ sym is)
-    (pushes_legally guest (pushed_behind v n past) v (rest_pushed guest v n past rest)
+    subst (λ (j : ℕ). MayFollow guest (pushed_after v n past) (Pushed v j)) (own_pushes v n past ∙ sym is)
+    (pushes_legally guest (pushed_after v n past) v (rest_pushed guest v n past rest)
     (record { vcpu = hv; opened = some_left v n past lt; room = finds_place guest past v n valid legal lt }))
 
 -- one push more
-pub next_pushed : (v n k : ℕ) (past : List Event) → k ≡ pushes v past + n → Pushed v k ∷ pushed_behind v n past ≡ pushed_behind v (n + 1) past
-next_pushed v n k past is = ap (λ (j : ℕ). Pushed v j ∷ pushed_behind v n past) (is ∙ sym (own_pushes v n past)) ∙ ap (λ m. pushed_behind v m past) (sym (add-one n))
+pub next_pushed : (v n k : ℕ) (past : List Event) → k ≡ pushes v past + n → Pushed v k ∷ pushed_after v n past ≡ pushed_after v (n + 1) past
+next_pushed v n k past is = ap (λ (j : ℕ). Pushed v j ∷ pushed_after v n past) (is ∙ sym (own_pushes v n past)) ∙ ap (λ m. pushed_after v m past) (sym (add-one n))
 
 few_at : (same : Bool) (guest : Guest) (past : List Event) (v u : ℕ) → (same ≡ true → v ≡ u) → (same ≡ false → unpushed u past < max 1 guest.settings.buffer) → opens u past - (pushes u past + cond same (unpushed v past) 0) < max 1 guest.settings.buffer
 few_at true guest past v u e f = let d : unpushed v past ≡ unpushed u past = ap (λ (w : ℕ). unpushed w past) (e refl) in omega (arith, d)

@@ -15,7 +15,7 @@ use Rattle.dr_history.specs.Vcpus.{stopped}
 use Rattle.dr_turns.specs.declared.answers.Advance.{Advance}
 use Rattle.dr_turns.specs.declared.answers.Advance.TheVariants as advance
 use Rattle.dr_turns.specs.Firsts.{first_unpaced, first_kicked, first_unreset}
-use Rattle.dr_turns.specs.Due.{advanced, begun, some_closing, answered_behind, reset_answer, answered, page_to_copy, zeros_to_copy, copies_from, copied_together, round_of, asked, asked_where_paced, next_round, after_stop, copied, answered_or_copied}
+use Rattle.dr_turns.specs.Due.{advanced, begun, some_closing, answered_after, reset_answer, answered, page_to_copy, zeros_to_copy, copies_from, copied_together, round_of, asked, asked_where_paced, next_round, after_stop, copied, answered_or_copied}
 
 -- the advance appends nothing
 abbrev pub IsWait : Advance → Type 0
@@ -57,7 +57,7 @@ pub record GoesOn (guest : Guest) (past : List Event) : Type 0 where
 pub record AdvanceCases (guest : Guest) (now : ℕ) (past : List Event) (G : Advance × List Event → Type 0) : Type 0 where
   pub waits : (a : Advance) → IsWait a → G (a, past)
   pub starts : StartDue guest past → G (advance.Started, Start now ∷ past)
-  pub answers : (r : ℕ) → AnswerDue guest past r → G (advance.Answered r (length (dirty_pages guest past)), answered_behind guest r now past)
+  pub answers : (r : ℕ) → AnswerDue guest past r → G (advance.Answered r (length (dirty_pages guest past)), answered_after guest r now past)
   pub copies : (page : ℕ) → CopyDue guest past page → zeros_to_copy guest past page ≡ 0 → G (advance.Copied (round_of (last_synced past)) page, Copied (round_of (last_synced past)) page ∷ past)
   pub blanks : (page n : ℕ) → CopyDue guest past page → zeros_to_copy guest past page ≡ suc n → G (advance.Blank (round_of (last_synced past)) page (suc n), copies_from (round_of (last_synced past)) page (suc n) past)
   pub asks_last : GoesOn guest past → stopped past ≡ true → list_any is_asked (since is_stopped past) ≡ false → G (asked past)
@@ -77,7 +77,7 @@ begun_case G guest now past (Some v) each fresh is = each.waits (begun now past 
 
 reset_case : (G : Advance × List Event → Type 0) (guest : Guest) (now : ℕ) (past : List Event) (r : ℕ) (o : Option ℕ) → AdvanceCases guest now past G → started past ≡ true → unanswered past ≡ Some r → first_kicked guest past ≡ None → first_unreset guest past ≡ o → G (reset_answer guest now r past o)
 reset_case G guest now past r None each begun asked out is =
-    if_case G (some_closing guest past) (advance.NotFlushed, past) (advance.Answered r (length (dirty_pages guest past)), answered_behind guest r now past)
+    if_case G (some_closing guest past) (advance.NotFlushed, past) (advance.Answered r (length (dirty_pages guest past)), answered_after guest r now past)
     (λ h. each.waits advance.NotFlushed tt)
     (λ h. each.answers r (record { begun = begun; asked = asked; out = out; reset = is; flushed = h }))
 reset_case G guest now past r (Some v) each begun asked out is = each.waits (reset_answer guest now r past (Some v)).0 tt

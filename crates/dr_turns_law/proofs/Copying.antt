@@ -78,7 +78,7 @@ copy_follows guest past page legal end answered page_to_copy =
       next = next_to_copy guest past (last_synced past) page (next_copy guest past page legal) page_to_copy;
     })
 
--- behind its copy nothing is owed, and no buffer is full
+-- after its copy nothing is owed, and no buffer is full
 pub copy_ends : (guest : Guest) (past : List Event) (page : ℕ) → IsLegalSoFar guest past → AtTurnsEnd guest past → unanswered past ≡ None → page_to_copy guest past ≡ Some page → AtTurnsEnd guest (Copied (round_of (last_synced past)) page ∷ past)
 copy_ends guest past page legal end answered page_to_copy = record {
   rests = (settles guest past (Copied (round_of (last_synced past)) page) tt (left_here guest past page legal page_to_copy)).rests;

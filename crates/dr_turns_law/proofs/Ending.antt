@@ -7,6 +7,6 @@ use Rattle.dr_turns.specs.Turns.{after_op, executed}
 use Rattle.dr_turns_law.proofs.Buffers.{pushed_ends}
 use Rattle.dr_turns_law.proofs.Executing.{executed_rests, executed_others}
 
--- behind its operation and its buffer nothing is owed and no buffer is full
+-- after its operation and its buffer nothing is owed and no buffer is full
 pub op_ends : (guest : Guest) (past : List Event) (v : ℕ) → MayTurn guest past v → AtTurnsEnd guest (after_op guest v past)
 op_ends guest past v t = pushed_ends guest (executed guest v past) v (executed_rests guest past v t) (executed_others guest past v t)

@@ -27,7 +27,7 @@ use Rattle.dr_event_law.proofs.Rest.{rest_due, ends_before}
 use Rattle.dr_event_law.proofs.Running.{running_here, has_operation}
 use Rattle.dr_event_law.proofs.Writes.{writes_alone, writes_filled, writes_opened}
 use Rattle.dr_turns.specs.Between.{AtTurnsEnd, MayTurn, OthersFew}
-use Rattle.dr_turns.specs.Turns.{refusal, event_behind, op_behind, executed}
+use Rattle.dr_turns.specs.Turns.{refusal, event_after, op_after, executed}
 use Rattle.dr_turns_law.proofs.Operations.{valid_ends, valid_some, op_in_page, frame_page, op_rest, op_counts}
 
 none_case : {X : Type 0} (b : Bool) (t : X) (rest : Option X) → cond b (Some t) rest ≡ None → (b ≡ false) × (rest ≡ None)
@@ -108,11 +108,11 @@ opened_follows guest past v page t hp c w =
     opens_legally guest past v page (record { rests = t.end.rests; here = t.run.here })
     (record { vcpu = t.run.vcpu; within = hp; started = parts.0; protected = opened_case (started past) (opened_last page past) false parts.0 w; uncached = parts.1 })
 
--- a write comes behind its Filled
+-- a write comes after its Filled
 pub write_follows_filled : (guest : Guest) (past : List Event) (v page : ℕ) (e : Event) → MayTurn guest past v → WritesNext guest past v page e → MayFollow guest (Filled v page ∷ past) e
 write_follows_filled guest past v page e t m = writes_filled guest past v page e t.run (t.end.buffers v) m
 
--- a write comes behind its Opened
+-- a write comes after its Opened
 pub write_follows_opened : (guest : Guest) (past : List Event) (v k page : ℕ) (e : Event) → MayTurn guest past v → WritesNext guest past v page e → MayFollow guest (Opened v k page ∷ past) e
 write_follows_opened guest past v k page e t m = writes_opened guest past v k page e t.run (t.end.buffers v) m
 
@@ -121,20 +121,20 @@ write_case P true writes a b c x y z = x
 write_case P false true a b c x y z = y
 write_case P false false a b c x y z = z
 
-by_place : (P : List Event → Type 0) (v : ℕ) (e : Event) (place : Option ℕ) (past : List Event) → P (e ∷ past) → ((page : ℕ) → P (e ∷ Filled v page ∷ past)) → ((page : ℕ) → P (e ∷ Opened v (opens v past) page ∷ past)) → P (event_behind v e place past)
+by_place : (P : List Event → Type 0) (v : ℕ) (e : Event) (place : Option ℕ) (past : List Event) → P (e ∷ past) → ((page : ℕ) → P (e ∷ Filled v page ∷ past)) → ((page : ℕ) → P (e ∷ Opened v (opens v past) page ∷ past)) → P (event_after v e place past)
 by_place P v e None past a f o = a
 by_place P v e (Some page) past a f o =
     write_case P (not (started past) || cached v page past) (writable page past) (e ∷ past) (e ∷ Filled v page ∷ past) (e ∷ Opened v (opens v past) page ∷ past) a (f page) (o page)
 
 by_op : (P : List Event → Type 0) (guest : Guest) (past : List Event) (v : ℕ) (o : Option Op) → (o ≡ None → P past) → ((e : Event) → vcpu_of_op e ≡ Some v → P (e ∷ past)) → ((e : Event) (page : ℕ) → vcpu_of_op e ≡ Some v → P (e ∷ Filled v page ∷ past))
-    → ((e : Event) (page : ℕ) → vcpu_of_op e ≡ Some v → P (e ∷ Opened v (opens v past) page ∷ past)) → P (op_behind guest v o past)
+    → ((e : Event) (page : ℕ) → vcpu_of_op e ≡ Some v → P (e ∷ Opened v (opens v past) page ∷ past)) → P (op_after guest v o past)
 by_op P guest past v None n a f o = n refl
 by_op P guest past v (Some x) n a f o =
     let e : Event = op_event guest v past x in
     let is : vcpu_of_op e ≡ Some v = op_of guest past v x in
     by_place P v (op_event guest v past x) (op_page guest x) past (a (op_event guest v past x) is) (λ page. f (op_event guest v past x) page is) (λ page. o (op_event guest v past x) page is)
 
--- what holds behind an operation in each of its three places holds behind what is executed
+-- what holds after an operation in each of its three places holds after what is executed
 pub by_executed : (P : List Event → Type 0) (guest : Guest) (past : List Event) (v : ℕ) → (operation guest v (ops v past) ≡ None → P past) → ((e : Event) → vcpu_of_op e ≡ Some v → P (e ∷ past)) → ((e : Event) (page : ℕ) → vcpu_of_op e ≡ Some v → P (e ∷ Filled v page ∷ past))
     → ((e : Event) (page : ℕ) → vcpu_of_op e ≡ Some v → P (e ∷ Opened v (opens v past) page ∷ past)) → P (executed guest v past)
 unfolding executed
@@ -144,7 +144,7 @@ no_none : {X : Type 0} (o : Option X) → is_some o ≡ true → o ≡ None → 
 no_none None s h = false≢true s
 no_none (Some x) s h = cc
 
--- behind what a vCPU executes the history is at rest
+-- after what a vCPU executes the history is at rest
 pub executed_rests : (guest : Guest) (past : List Event) (v : ℕ) → MayTurn guest past v → AtRest guest (executed guest v past)
 executed_rests guest past v t =
     by_executed (λ (xs : List Event). AtRest guest xs) guest past v
@@ -158,18 +158,18 @@ other_case : (same : Bool) (o p m : ℕ) → same ≡ false → o - p < m → co
 other_case true o p m h lt = absurd (true≢false h)
 other_case false o p m h lt = lt
 
-few_behind : (past : List Event) (e : Event) (v u m : ℕ) → vcpu_of_op e ≡ Some v → unpushed u past < m → unpushed u (e ∷ past) < m
-few_behind past e v u m is lt = subst (λ (n : ℕ). n < m) (sym (op_counts past e v u is).unpushed_stay) lt
+few_after : (past : List Event) (e : Event) (v u m : ℕ) → vcpu_of_op e ≡ Some v → unpushed u past < m → unpushed u (e ∷ past) < m
+few_after past e v u m is lt = subst (λ (n : ℕ). n < m) (sym (op_counts past e v u is).unpushed_stay) lt
 
 -- no buffer has grown full, but perhaps its own
 pub executed_others : (guest : Guest) (past : List Event) (v : ℕ) → MayTurn guest past v → OthersFew guest (executed guest v past) v
 executed_others guest past v t =
     by_executed (λ (xs : List Event). OthersFew guest xs v) guest past v
     (λ none. absurd (no_none (operation guest v (ops v past)) t.some none))
-    (λ e is. record { few = λ u ne. few_behind past e v u (max 1 guest.settings.buffer) is (t.end.buffers u) })
-    (λ e page is. record { few = λ u ne. few_behind (Filled v page ∷ past) e v u (max 1 guest.settings.buffer) is (t.end.buffers u) })
+    (λ e is. record { few = λ u ne. few_after past e v u (max 1 guest.settings.buffer) is (t.end.buffers u) })
+    (λ e page is. record { few = λ u ne. few_after (Filled v page ∷ past) e v u (max 1 guest.settings.buffer) is (t.end.buffers u) })
     (λ e page is. record {
-      few = λ u ne. few_behind (Opened v (opens v past) page ∷ past) e v u (max 1 guest.settings.buffer) is
+      few = λ u ne. few_after (Opened v (opens v past) page ∷ past) e v u (max 1 guest.settings.buffer) is
           (other_case (v == u) (opens u past) (pushes u past) (max 1 guest.settings.buffer) ne (t.end.buffers u));
     })
 
@@ -177,8 +177,8 @@ one_opened : (same : Bool) (o p m : ℕ) → o - p < m → cond same (o + 1) o -
 one_opened true o p m h = omega arith
 one_opened false o p m h = omega arith
 
-most_behind : (past : List Event) (e : Event) (v m : ℕ) → vcpu_of_op e ≡ Some v → unpushed v past ≤ m → unpushed v (e ∷ past) ≤ m
-most_behind past e v m is le = subst (λ (n : ℕ). n ≤ m) (sym (op_counts past e v v is).unpushed_stay) le
+most_after : (past : List Event) (e : Event) (v m : ℕ) → vcpu_of_op e ≡ Some v → unpushed v past ≤ m → unpushed v (e ∷ past) ≤ m
+most_after past e v m is le = subst (λ (n : ℕ). n ≤ m) (sym (op_counts past e v v is).unpushed_stay) le
 
 most : (n m : ℕ) → n < m → n ≤ m
 most n m h = omega (arith, h)
@@ -188,9 +188,9 @@ pub executed_own : (guest : Guest) (past : List Event) (v : ℕ) → MayTurn gue
 executed_own guest past v t =
     by_executed (λ (xs : List Event). unpushed v xs ≤ max 1 guest.settings.buffer) guest past v
     (λ none. absurd (no_none (operation guest v (ops v past)) t.some none))
-    (λ e is. most_behind past e v (max 1 guest.settings.buffer) is (most (unpushed v past) (max 1 guest.settings.buffer) (t.end.buffers v)))
-    (λ e page is. most_behind (Filled v page ∷ past) e v (max 1 guest.settings.buffer) is (most (unpushed v past) (max 1 guest.settings.buffer) (t.end.buffers v)))
-    (λ e page is. most_behind (Opened v (opens v past) page ∷ past) e v (max 1 guest.settings.buffer) is
+    (λ e is. most_after past e v (max 1 guest.settings.buffer) is (most (unpushed v past) (max 1 guest.settings.buffer) (t.end.buffers v)))
+    (λ e page is. most_after (Filled v page ∷ past) e v (max 1 guest.settings.buffer) is (most (unpushed v past) (max 1 guest.settings.buffer) (t.end.buffers v)))
+    (λ e page is. most_after (Opened v (opens v past) page ∷ past) e v (max 1 guest.settings.buffer) is
     (one_opened (v == v) (opens v past) (pushes v past) (max 1 guest.settings.buffer) (t.end.buffers v)))
 
 -- what is executed pushes nothing

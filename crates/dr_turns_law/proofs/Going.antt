@@ -69,7 +69,7 @@ pub stop_follows : (guest : Guest) (past : List Event) → IsLegalSoFar guest pa
 stop_follows guest past legal end answered here runs few =
     stops_legally guest past (record { rests = end.rests; here = here }) (record { runs = runs; answered = answered; few = few })
 
--- behind the stop nothing is owed, and no buffer is full
+-- after the stop nothing is owed, and no buffer is full
 pub stop_ends : (guest : Guest) (past : List Event) → IsLegalSoFar guest past → AtTurnsEnd guest past → unanswered past ≡ None → list_any is_switched past ≡ false → stopped past ≡ false → few_answered guest (last_synced past) ≡ true → AtTurnsEnd guest (Stopped ∷ past)
 stop_ends guest past legal end answered here runs few = record { rests = (settles guest past Stopped tt here).rests; buffers = end.buffers }
 
@@ -87,7 +87,7 @@ switch_follows guest past legal end answered copied here stop asked =
       copied = left_none guest past (last_synced past) (stop_opens guest (last_synced past) (open_stop past stop synced)) (all_copied guest past legal) copied;
     })
 
--- behind the switch-over nothing is owed, and no buffer is full
+-- after the switch-over nothing is owed, and no buffer is full
 pub switch_ends : (guest : Guest) (past : List Event) → IsLegalSoFar guest past → AtTurnsEnd guest past → unanswered past ≡ None → page_to_copy guest past ≡ None → list_any is_switched past ≡ false → stopped past ≡ true → list_any is_asked (since is_stopped past) ≡ true → AtTurnsEnd guest (Switched ∷ past)
 switch_ends guest past legal end answered copied here stop asked = record { rests = unowed (nat_le 1 guest.settings.quota && not (stopped past)) None refl; buffers = end.buffers }
 
@@ -129,7 +129,7 @@ ask_later_follows guest past legal end begun answered copied here runs many more
           (two_case (nat_lt (asks past + 1) 2) (round_copied guest (last_synced past) (since is_synced past)) (all_paced guest (since is_asked past) past) round (none_unpaced guest (since is_asked past) past paced));
     })
 
--- behind an Asked nothing is owed, and no buffer is full
+-- after an Asked nothing is owed, and no buffer is full
 pub ask_ends : (guest : Guest) (past : List Event) → AtTurnsEnd guest past → list_any is_switched past ≡ false → AtTurnsEnd guest (Asked (asks past + 1) ∷ past)
 ask_ends guest past end here = record { rests = (settles guest past (Asked (asks past + 1)) tt here).rests; buffers = end.buffers }
 

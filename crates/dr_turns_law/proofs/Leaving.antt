@@ -38,7 +38,7 @@ inside_rests guest past v hv legal end inside = record { rests = end.rests; here
 pub ends_few : (guest : Guest) (past : List Event) (v : ℕ) → AtTurnsEnd guest past → OthersFew guest past v
 ends_few guest past v end = record { few = λ u ne. end.buffers u }
 
--- behind its buffer a vCPU leaves by the rules
+-- after its buffer a vCPU leaves by the rules
 pub exit_follows : (guest : Guest) (past : List Event) (v : ℕ) → v < vcpu_count guest → IsLegalSoFar guest past → AtRest guest past → in_guest v past ≡ true → MayFollow guest (all_pushed v past) (Exited v (exit_reason guest v (all_pushed v past)))
 exit_follows guest past v hv legal rest inside =
     exits_legally guest (all_pushed v past) v (exit_reason guest v (all_pushed v past)) (rest_pushed guest v (unpushed v past) past rest)

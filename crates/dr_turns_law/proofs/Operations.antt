@@ -76,7 +76,7 @@ page_from_within first (row ∷ rows) frame page h =
 pub frame_page : (guest : Guest) (frame page : ℕ) → page_from 0 guest.slots frame ≡ Some page → page < page_count guest
 frame_page guest frame page is = let lt : page < 0 + pages_of_slots guest.slots = page_from_within 0 guest.slots frame page is in omega (arith, lt)
 
--- behind an operation the history is at rest
+-- after an operation the history is at rest
 pub op_rest : (guest : Guest) (past : List Event) (e : Event) (v : ℕ) → vcpu_of_op e ≡ Some v → list_any is_switched past ≡ false → AtRest guest (e ∷ past)
 op_rest guest past (Read w i a x) v is here = settles guest past (Read w i a x) tt here
 op_rest guest past (Write w i a l x) v is here = settles guest past (Write w i a l x) tt here

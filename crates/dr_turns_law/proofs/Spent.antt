@@ -14,7 +14,7 @@ use Rattle.dr_history.specs.Rounds.{asks, unanswered, last_synced, few_answered}
 use Rattle.dr_turns.specs.declared.answers.Advance.{Advance}
 use Rattle.dr_turns.specs.declared.answers.Advance.TheVariants as advance
 use Rattle.dr_turns.specs.Firsts.{first_unpaced, first_kicked, first_unreset}
-use Rattle.dr_turns.specs.Due.{begun, some_closing, answered_behind, reset_answer, answered, page_to_copy, zeros_to_copy, copied_together, round_of, asked, asked_where_paced, next_round, after_stop, after_copies, copied, answered_or_copied, advanced, is_spent}
+use Rattle.dr_turns.specs.Due.{begun, some_closing, answered_after, reset_answer, answered, page_to_copy, zeros_to_copy, copied_together, round_of, asked, asked_where_paced, next_round, after_stop, after_copies, copied, answered_or_copied, advanced, is_spent}
 
 -- nothing is due any more, but the last answer has too many pages
 record Spent (guest : Guest) (past : List Event) : Type 0 where
@@ -64,7 +64,7 @@ flushed_other true n r a b h = cc
 flushed_other false n r a b h = cc
 
 reset_other : (guest : Guest) (now r : ℕ) (past : List Event) (o : Option ℕ) → (reset_answer guest now r past o).0 ≡ advance.Budget → ⊥
-reset_other guest now r past None h = flushed_other (some_closing guest past) _ r past (answered_behind guest r now past) h
+reset_other guest now r past None h = flushed_other (some_closing guest past) _ r past (answered_after guest r now past) h
 reset_other guest now r past (Some v) h = cc
 
 answered_other : (guest : Guest) (now r : ℕ) (past : List Event) (o : Option ℕ) → (answered guest now r past o).0 ≡ advance.Budget → ⊥

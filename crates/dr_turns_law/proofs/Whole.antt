@@ -20,7 +20,7 @@ use Rattle.dr_event_law.specs.May.{MayFollow}
 use Rattle.dr_turns.specs.declared.answers.Advance.{Advance}
 use Rattle.dr_turns.specs.declared.answers.Advance.TheVariants as advance
 use Rattle.dr_turns.specs.Between.{AtTurnsEnd}
-use Rattle.dr_turns.specs.Due.{advanced, throttled_behind, answered_behind, zeros_to_copy, copies_from, round_of}
+use Rattle.dr_turns.specs.Due.{advanced, throttled_after, answered_after, zeros_to_copy, copies_from, round_of}
 use Rattle.dr_turns_law.proofs.Starting.{start_follows, start_ends}
 use Rattle.dr_turns_law.specs.Advances.{IsAdvance, SameEntries}
 use Rattle.dr_turns_law.proofs.Answering.{asked_here, answer_follows, throttle_follows, answered_ends}
@@ -33,22 +33,22 @@ use Rattle.dr_turns_law.proofs.Together.{run_keeps, run_on}
 legal_on : (guest : Guest) (past : List Event) (e : Event) → MayFollow guest past e → IsLegalSoFar guest past → IsLegalSoFar guest (e ∷ past)
 legal_on guest past e may legal = (may.kept, legal)
 
-throttles_legal : (guest : Guest) (past : List Event) (r now n : ℕ) → n ≤ vcpu_count guest → IsLegalSoFar guest (Synced r now (dirty_pages guest past) ∷ past) → AtTurnsEnd guest past → list_any is_switched past ≡ false → 1 ≤ guest.settings.quota → stopped past ≡ false → IsLegalSoFar guest (throttled_behind guest n (Synced r now (dirty_pages guest past) ∷ past))
+throttles_legal : (guest : Guest) (past : List Event) (r now n : ℕ) → n ≤ vcpu_count guest → IsLegalSoFar guest (Synced r now (dirty_pages guest past) ∷ past) → AtTurnsEnd guest past → list_any is_switched past ≡ false → 1 ≤ guest.settings.quota → stopped past ≡ false → IsLegalSoFar guest (throttled_after guest n (Synced r now (dirty_pages guest past) ∷ past))
 throttles_legal guest past r now zero le legal end here some runs = legal
 throttles_legal guest past r now (suc n) le legal end here some runs =
     let so_far = throttles_legal guest past r now n (omega (arith, le)) legal end here some runs in
-    legal_on guest (throttled_behind guest n (Synced r now (dirty_pages guest past) ∷ past)) _ (throttle_follows guest past r now n so_far end here some runs (omega (arith, le))) so_far
+    legal_on guest (throttled_after guest n (Synced r now (dirty_pages guest past) ∷ past)) _ (throttle_follows guest past r now n so_far end here some runs (omega (arith, le))) so_far
 
-behind_case : (test : Bool) (guest : Guest) (past : List Event) (r now : ℕ) → (nat_le 1 guest.settings.quota && not (stopped past)) ≡ test → IsLegalSoFar guest (Synced r now (dirty_pages guest past) ∷ past) → AtTurnsEnd guest past → list_any is_switched past ≡ false → IsLegalSoFar guest (cond test (throttled_behind guest (vcpu_count guest) (Synced r now (dirty_pages guest past) ∷ past)) (Synced r now (dirty_pages guest past) ∷ past))
-behind_case true guest past r now is legal end here =
+after_case : (test : Bool) (guest : Guest) (past : List Event) (r now : ℕ) → (nat_le 1 guest.settings.quota && not (stopped past)) ≡ test → IsLegalSoFar guest (Synced r now (dirty_pages guest past) ∷ past) → AtTurnsEnd guest past → list_any is_switched past ≡ false → IsLegalSoFar guest (cond test (throttled_after guest (vcpu_count guest) (Synced r now (dirty_pages guest past) ∷ past)) (Synced r now (dirty_pages guest past) ∷ past))
+after_case true guest past r now is legal end here =
     let parts = and_parts (nat_le 1 guest.settings.quota) (not (stopped past)) is in
     throttles_legal guest past r now (vcpu_count guest) (omega arith) legal end here (leb-true 1 guest.settings.quota parts.0) (not-true (stopped past) parts.1)
-behind_case false guest past r now is legal end here = legal
+after_case false guest past r now is legal end here = legal
 
 -- the answer and its throttles break no rule
-pub answered_legal : (guest : Guest) (past : List Event) (r now : ℕ) → IsLegalSoFar guest past → AtTurnsEnd guest past → AnswerDue guest past r → IsLegalSoFar guest (answered_behind guest r now past)
+pub answered_legal : (guest : Guest) (past : List Event) (r now : ℕ) → IsLegalSoFar guest past → AtTurnsEnd guest past → AnswerDue guest past r → IsLegalSoFar guest (answered_after guest r now past)
 answered_legal guest past r now legal end due =
-    behind_case (nat_le 1 guest.settings.quota && not (stopped past)) guest past r now refl
+    after_case (nat_le 1 guest.settings.quota && not (stopped past)) guest past r now refl
     (legal_on guest past (Synced r now (dirty_pages guest past)) (answer_follows guest past r now legal end due.asked due.out due.reset due.flushed) legal)
     end (asked_here guest past legal (rw due.asked refl))
 
@@ -77,7 +77,7 @@ advanced_legal guest now past legal end =
       asks_later = λ on runs many more some paced. legal_on guest past (Asked (asks past + 1)) (ask_later_follows guest past legal end on.begun on.answered on.copied on.here runs many more some paced) legal;
     })
 
--- behind the advance nothing is owed, and no buffer is full, whatever guest it is
+-- after the advance nothing is owed, and no buffer is full, whatever guest it is
 pub advance_ends : (guest : Guest) (now : ℕ) (past : List Event) → IsLegalSoFar guest past → AtTurnsEnd guest past → AtTurnsEnd guest (advanced guest now past).1
 advance_ends guest now past legal end =
     advanced_cases (λ (p : Advance × List Event). AtTurnsEnd guest p.1) guest now past (record {
@@ -93,22 +93,22 @@ advance_ends guest now past legal end =
       asks_later = λ on runs many more some paced. ask_ends guest past end on.here;
     })
 
--- behind the advance of a valid guest nothing is owed, and no buffer is full
+-- after the advance of a valid guest nothing is owed, and no buffer is full
 pub advanced_ends : (guest : Guest) (now : ℕ) (past : List Event) → IsValid guest → IsLegalSoFar guest past → AtTurnsEnd guest past → AtTurnsEnd guest (advanced guest now past).1
 advanced_ends guest now past valid legal end = advance_ends guest now past legal end
 
-throttles_keep : (P : List Event → Type 0) (guest : Guest) (answer : List Event) (n : ℕ) → P answer → ((e : Event) (xs : List Event) → IsAdvance e → P xs → P (e ∷ xs)) → P (throttled_behind guest n answer)
+throttles_keep : (P : List Event → Type 0) (guest : Guest) (answer : List Event) (n : ℕ) → P answer → ((e : Event) (xs : List Event) → IsAdvance e → P xs → P (e ∷ xs)) → P (throttled_after guest n answer)
 throttles_keep P guest answer zero h on = h
-throttles_keep P guest answer (suc n) h on = on (Throttled n (throttle guest n (throttled_behind guest n answer)).us) (throttled_behind guest n answer) tt (throttles_keep P guest answer n h on)
+throttles_keep P guest answer (suc n) h on = on (Throttled n (throttle guest n (throttled_after guest n answer)).us) (throttled_after guest n answer) tt (throttles_keep P guest answer n h on)
 
 keep_case : (P : List Event → Type 0) (test : Bool) (a b : List Event) → P a → P b → P (cond test a b)
 keep_case P true a b h k = h
 keep_case P false a b h k = k
 
-answer_keeps : (P : List Event → Type 0) (guest : Guest) (past : List Event) (r now : ℕ) → P past → ((e : Event) (xs : List Event) → IsAdvance e → P xs → P (e ∷ xs)) → P (answered_behind guest r now past)
+answer_keeps : (P : List Event → Type 0) (guest : Guest) (past : List Event) (r now : ℕ) → P past → ((e : Event) (xs : List Event) → IsAdvance e → P xs → P (e ∷ xs)) → P (answered_after guest r now past)
 answer_keeps P guest past r now h on =
     let answer : P (Synced r now (dirty_pages guest past) ∷ past) = on (Synced r now (dirty_pages guest past)) past tt h in
-    keep_case P (nat_le 1 guest.settings.quota && not (stopped past)) (throttled_behind guest (vcpu_count guest) (Synced r now (dirty_pages guest past) ∷ past)) (Synced r now (dirty_pages guest past) ∷ past)
+    keep_case P (nat_le 1 guest.settings.quota && not (stopped past)) (throttled_after guest (vcpu_count guest) (Synced r now (dirty_pages guest past) ∷ past)) (Synced r now (dirty_pages guest past) ∷ past)
     (throttles_keep P guest (Synced r now (dirty_pages guest past) ∷ past) (vcpu_count guest) answer on) answer
 
 -- what each event of the migrator keeps, the advance keeps

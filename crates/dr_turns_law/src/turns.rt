@@ -11,7 +11,7 @@ ghost use Rattle.dr_history_law.specs.Room.{unpushed};
 ghost use Rattle.dr_event_law.specs.May.{AtRest};
 ghost use Rattle.dr_turns.specs.declared.answers.Advance.TheVariants.{Budget};
 ghost use Rattle.dr_turns.specs.Between.{AtTurnsEnd, MayTurn, OthersFew};
-ghost use Rattle.dr_turns.specs.Buffers.{pushed_behind, pushed_where_full, all_pushed};
+ghost use Rattle.dr_turns.specs.Buffers.{pushed_after, pushed_where_full, all_pushed};
 ghost use Rattle.dr_turns.specs.Due.{advanced, is_spent};
 ghost use Rattle.dr_turns.specs.Firsts.{first_below};
 ghost use Rattle.dr_turns.specs.Least.{IsLeast};
@@ -25,8 +25,8 @@ pub fn search_finds_least()
 /// A push never finds its ring full.
 pub fn push_finds_place()
     ensures { (guest : Guest) (past : List Event) (v n : ℕ) → IsValid guest
-        → IsLegalSoFar guest (pushed_behind v n past) → n < unpushed v past
-        → used v (pushed_behind v n past) < guest.settings.ring }
+        → IsLegalSoFar guest (pushed_after v n past) → n < unpushed v past
+        → used v (pushed_after v n past) < guest.settings.ring }
 {}
 
 /// After a turn in which a vCPU executed, nothing is owed and no buffer is full.

@@ -1,4 +1,4 @@
--- Puts on one port, one behind the other.
+-- Puts on one port, one after the other.
 use Rattle.std.proofs.Common.{◌≡◌, ℕ, List, [], ◌++◌, Option, Some, None, refl, ap, append_assoc}
 use Rattle.std.proofs.lemmas.List.{append-nil}
 use Rattle.dr_types.specs.declared.port.Port.{Port}

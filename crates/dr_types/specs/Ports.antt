@@ -22,12 +22,12 @@ told_at Stream p = p.stream
 told_at Image p = p.image
 told_at Journal p = p.journal
 
--- a port's bytes with more behind them; of a port that isn't told, nothing is
+-- a port's bytes with more after them; of a port that isn't told, nothing is
 abbrev pub grown : Option (List ℕ) → List ℕ → Option (List ℕ)
 grown None more = None
 grown (Some bytes) more = Some (bytes ++ more)
 
--- the ports with more behind one of them
+-- the ports with more after one of them
 abbrev pub put_at : Port → List ℕ → Ports → Ports
 put_at Report more p = record p { report = grown p.report more }
 put_at Stream more p = record p { stream = grown p.stream more }

@@ -78,32 +78,33 @@ impl From<Memory> for FileFault {
     }
 }
 
-/// Why a migration stream is refused. `at` is the place of a byte, from 0.
+/// Why a migration stream is refused: its first fault in the order of the bytes. `at` is the place
+/// of a byte, from 0.
 #[derive(Clone, Copy, Debug, PartialEq, Eq, Error)]
 pub enum StreamFault {
     /// It doesn't begin as a stream does.
     #[error("the stream doesn't begin with `DRSTREAM`")]
     Magic,
     /// Its version is unknown.
-    #[error("the stream's version is {said}, and only 1 is read")]
+    #[error("byte 8: the stream's version is {said}, and versions 1 and 2 are known")]
     Version { said: u32 },
     /// It says a number of pages that no guest has.
-    #[error("the stream says {said} pages, and 1 to 16384 may be")]
+    #[error("byte 12: the stream says {said} pages, and a stream has 1 to 16384")]
     Pages { said: u32 },
-    /// It ends inside a part.
-    #[error("byte {at}: the stream ends inside a part")]
+    /// It ends inside the header or a record.
+    #[error("byte {at}: the stream ends too early")]
     Cut { at: u64 },
     /// A record is of no kind.
-    #[error("byte {at}: no record is of this kind")]
+    #[error("byte {at}: there is no record of this kind")]
     Kind { at: u64 },
     /// A record may not stand where it does.
-    #[error("byte {at}: this record may not stand here")]
+    #[error("byte {at}: this record may not come here")]
     Place { at: u64 },
-    /// Its end counts other page records than there are.
-    #[error("the stream says {said} page records, and has {seen}")]
+    /// Its end record counts other page and zero records than there are.
+    #[error("the end record counts {said} page and zero records, and the stream has {seen}")]
     Count { said: u32, seen: u32 },
     /// Something follows its end.
-    #[error("byte {at}: something follows the end record")]
+    #[error("byte {at}: there is more after the end record")]
     After { at: u64 },
     /// An allocation was refused.
     #[error("out of memory")]

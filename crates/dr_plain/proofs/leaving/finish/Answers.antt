@@ -9,11 +9,11 @@ use Rattle.dr_plain.proofs.leaving.finish.Goals as goal
 pub returns-clause-says : goal.returns-clause-says
 returns-clause-says g c =
     let guest = g.N.Name.guest in
-    let told = g.O.Outlet.told c.put_behind.new.out in
+    let told = g.O.Outlet.told c.put_after.new.out in
     let remaining = left_of guest c.args.machine in
-    let put = c.put_behind.ensures in
-    let says = run_says guest remaining g.N.Name.ports told c.args.end c.put_behind.result c.keep.ensures.valid
+    let put = c.put_after.ensures in
+    let says = run_says guest remaining g.N.Name.ports told c.args.end c.put_after.result c.keep.ensures.valid
     (subst (λ (k : KeptView). IsRunOf guest k) c.keep.ensures.is c.keep.ensures.run)
     c.requires.stands put.whole put.done put.cut in
     subst (λ (s : Status). RunSays s guest (Some c.keep.result) g.N.Name.ports told) (sym c.status_of-status.ensures)
-    (subst (λ (k : KeptView). RunSays (status_of_end c.put_behind.result) guest (Some k) g.N.Name.ports told) (sym c.keep.ensures.is) says)
+    (subst (λ (k : KeptView). RunSays (status_of_end c.put_after.result) guest (Some k) g.N.Name.ports told) (sym c.keep.ensures.is) says)

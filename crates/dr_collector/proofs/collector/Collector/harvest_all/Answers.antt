@@ -1,6 +1,6 @@
 use Rattle.std.proofs.Common.{◌≡◌, ◌∙◌, sym, refl, subst, slice_get, Some}
 use Rattle.std.proofs.lemmas.Result.{err_from_is_err_and}
-use Rattle.dr_collector.proofs.AllParts.{note_here, notes_left, note_named, batch_pushed, batch_read, cut_at_once, cut_behind, cut_at}
+use Rattle.dr_collector.proofs.AllParts.{note_here, notes_left, note_named, batch_pushed, batch_read, cut_at_once, cut_after, cut_at}
 use Rattle.dr_collector.proofs.collector.Collector.harvest_all.Goals as goal
 
 pub returns-in_err-batches-clause-cut_off : goal.returns-in_err-batches-clause-cut_off
@@ -19,7 +19,7 @@ returns-in_err-harvest_part-clause-cut_off g c =
 pub returns-in_err-push-clause-cut_off : goal.returns-in_err-push-clause-cut_off
 returns-in_err-push-clause-cut_off g c =
     let p = err_from_is_err_and c.from_residual-in_err-push.result c.from_residual-in_err-push.ensures.1 in
-    rw p.1 (cut_behind _ _ _ _ _ _
+    rw p.1 (cut_after _ _ _ _ _ _
     (batch_pushed _ _ _ _ _ _ _ _ _ _ c.in_ok-harvest_part.field-0 c.loop-note.invariant.are (note_here c.args.seen _ c.loop-note.v _ (sym c.in-Some.ensures.steps.0 ∙ c.loop-note.invariant.left)) c.in_ok-harvest_part.ensures.ok refl))
 
 pub loop-note-preserved : goal.loop-note-preserved

@@ -1,5 +1,5 @@
 use Rattle.dr_event_law.proofs.Rest.{settles}
-use Rattle.dr_event_law.proofs.settles_behind.Goals as goal
+use Rattle.dr_event_law.proofs.settles_after.Goals as goal
 
 pub returns : goal.returns
 returns c = settles

@@ -1,4 +1,4 @@
--- What holds of a guest that runs, and of what comes behind an answer.
+-- What holds of a guest that runs, and of what comes after an answer.
 use Rattle.std.proofs.Common.{◌≡◌, ℕ, ◌+◌, ◌≤◌, Bool, true, false, cond, List, [], ◌∷◌, ◌++◌, is_some, None, refl, sym, ◌∙◌, arith}
 use Rattle.std.specs.Prelude.{◌&&◌, ◌||◌}
 use Rattle.std.specs.List.{list_any}
@@ -38,11 +38,11 @@ asks_within guest past legal running =
     running_few (stopped past) (list_any is_asked (since is_stopped past)) (asks past) guest.settings.rounds
     (asks_few guest past legal) running
 
--- behind the answer of a round, the round's number and what was asked since are all that was asked
-pub asks_behind : (guest : Guest) (later : List Event) (r at : ℕ) (pages : List ℕ) (earlier : List Event)
+-- after the answer of a round, the round's number and what was asked since are all that was asked
+pub asks_after : (guest : Guest) (later : List Event) (r at : ℕ) (pages : List ℕ) (earlier : List Event)
     → IsLegalSoFar guest (later ++ Synced r at pages ∷ earlier)
     → asks (later ++ Synced r at pages ∷ earlier) ≡ count is_asked later + r
-asks_behind guest later r at pages earlier legal =
+asks_after guest later r at pages earlier legal =
     let before = earlier_legal guest later (Synced r at pages ∷ earlier) legal in
     let facts = syncs_facts guest earlier r at pages before.0 in
     let number : r ≡ asks earlier = asked_number guest earlier r before.1 facts.asked in

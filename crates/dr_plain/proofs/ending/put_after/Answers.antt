@@ -4,7 +4,7 @@ use Rattle.dr_run.specs.declared.outcome.OutcomeEnd.{OutcomeEnd}
 use Rattle.dr_run.specs.Outcomes.{StandsAs, SendsAs}
 use Rattle.dr_plain.proofs.Cuts.{on_err}
 use Rattle.dr_plain.proofs.Finishing.{cut_switched}
-use Rattle.dr_plain.proofs.ending.put_behind.Goals as goal
+use Rattle.dr_plain.proofs.ending.put_after.Goals as goal
 
 pub returns-in_err-put_switched-in-Switched-clause-cut :
     goal.returns-in_err-put_switched-in-Switched-clause-cut
