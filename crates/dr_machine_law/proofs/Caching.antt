@@ -68,13 +68,13 @@ unfolding executed
 by_write P guest v page past place after = by_next P guest v page past (operation guest v (ops v past)) place after
 
 -- after a turn that wrote a page after Start, the page is cached
-pub event_cached : (guest : Guest) (v page : ℕ) (past : List Event) → next_page guest v past ≡ Some page → started past ≡ true → cached v page (after_op guest v past) ≡ true
-event_cached guest v page past place begun =
+pub cached_after : (guest : Guest) (v page : ℕ) (past : List Event) → next_page guest v past ≡ Some page → started past ≡ true → cached v page (after_op guest v past) ≡ true
+cached_after guest v page past place begun =
     by_full (λ (xs : List Event). cached v page xs ≡ true) guest v (executed guest v past) (λ k xs h. h)
     (by_write (λ (xs : List Event). cached v page xs ≡ true) guest v page past place (λ e is. event_cached v page e past is begun))
 
 -- and writable, where it wasn't cached before
-pub event_writable : (guest : Guest) (v page : ℕ) (past : List Event) → next_page guest v past ≡ Some page → started past ≡ true → cached v page past ≡ false → writable page (after_op guest v past) ≡ true
-event_writable guest v page past place begun uncached =
+pub writable_after : (guest : Guest) (v page : ℕ) (past : List Event) → next_page guest v past ≡ Some page → started past ≡ true → cached v page past ≡ false → writable page (after_op guest v past) ≡ true
+writable_after guest v page past place begun uncached =
     by_full (λ (xs : List Event). writable page xs ≡ true) guest v (executed guest v past) (λ k xs h. h)
     (by_write (λ (xs : List Event). writable page xs ≡ true) guest v page past place (λ e is. event_writable v page e past is begun uncached))

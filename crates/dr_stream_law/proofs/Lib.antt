@@ -6,3 +6,6 @@ pub mod Placed
 pub mod Loads
 pub mod Read
 pub mod Written
+pub mod Faultless
+pub mod Few
+pub mod Faults

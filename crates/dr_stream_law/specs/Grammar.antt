@@ -21,6 +21,13 @@ page_rises page (Page last bytes ∷ earlier) = nat_lt last page
 page_rises page (Zeros first n ∷ earlier) = nat_le (first + n) page
 page_rises page (part ∷ earlier) = false
 
+-- the least page that may be named next, where a round has begun
+abbrev pub least_page : List Part → ℕ
+least_page [] = 0
+least_page (Page last bytes ∷ earlier) = last + 1
+least_page (Zeros first n ∷ earlier) = first + n
+least_page (part ∷ earlier) = 0
+
 -- a record of this first page may stand here, in a stream of so many pages
 abbrev pub page_fits : ℕ → ℕ → List Part → Bool
 page_fits pages page earlier = nat_lt page pages && page_rises page earlier

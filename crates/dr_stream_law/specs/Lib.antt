@@ -1,3 +1,4 @@
 pub mod Grammar
 pub mod Loading
 pub mod Samples
+pub mod Faults

@@ -5,6 +5,7 @@ ghost use Rattle.std.specs.Prelude.{ℕ, List, [], ◌∷◌};
 ghost use Rattle.dr_types.specs.declared.guest.Guest.{Guest};
 ghost use Rattle.dr_history.specs.declared.event.Event.{Event};
 ghost use Rattle.dr_history.specs.Memory.{filled};
+ghost use Rattle.dr_stream_law.specs.Faults.{FaultOnce, FaultOrStream};
 ghost use Rattle.dr_stream_law.specs.Loading.{IsStream, StreamLoads, LoadsOnce};
 ghost use Rattle.dr_stream_law.specs.Samples.{empty_stream, miscounted_stream, painted_stream};
 ghost use Rattle.dr_stream_law.specs.Samples.{zero_stream};
@@ -18,6 +19,16 @@ pub fn stream_loads()
 /// Bytes load as one image only, by one number of records.
 pub fn loads_once()
     ensures { (bytes : List ℕ) → LoadsOnce bytes }
+{}
+
+/// Bytes have one first fault at most.
+pub fn fault_once()
+    ensures { FaultOnce }
+{}
+
+/// Bytes that have a fault are no stream.
+pub fn fault_or_stream()
+    ensures { FaultOrStream }
 {}
 
 /// A header and an end load as a page of zeros, a round and a page record between them as that

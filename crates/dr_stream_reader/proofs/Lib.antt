@@ -1,0 +1,4 @@
+pub mod Headers
+pub mod Next
+pub mod Pages
+pub mod Loads

@@ -1,0 +1,5 @@
+pub mod Records
+pub mod Standings
+pub mod Headers
+pub mod Reading
+pub mod Images
