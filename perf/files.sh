@@ -30,6 +30,7 @@ step() {
 plain() {
     "$folder/plain" "$1" "$pages" "$folder/plain.stream" "$folder/plain.image"
 }
+ours=step
 . "$here/compare.sh"
 compare() {
     best_of_nine "$1"

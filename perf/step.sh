@@ -152,6 +152,7 @@ same_files() {
         cmp "$folder/step.$port" "$folder/plain.$port" || return 1
     done
 }
+ours=step
 . "$here/compare.sh"
 measure() {
     "$mode"_guest > "$folder/guest"
@@ -160,7 +161,7 @@ measure() {
     best_of_nine guest
     print_best
     printf ', '
-    if [ $((best_step * 2)) -lt $((best_plain * 3)) ]; then echo 'below 1.5'; else echo 'not below 1.5'; fi
+    if [ $((best_ours * 2)) -lt $((best_plain * 3)) ]; then echo 'below 1.5'; else echo 'not below 1.5'; fi
     step guest
     plain guest
     same_files || fail 'the files are not the same'

@@ -1,5 +1,5 @@
 //! The program: reads a guest file, migrates its guest over the dirty log, and writes what came of
-//! it.
+//! it; or reads a migration stream, and writes the memory that it carries.
 #![tactic(auto)]
 
 mod standard;
@@ -7,15 +7,16 @@ mod standard;
 use crate::standard::hold_standard;
 use dr_history::Event;
 use dr_input::{InputFile, KeptSource, NotedReader};
-use dr_io::ReadSource;
-use dr_io_files::{FileIdentity, FilePorts, OwnedFiles, PathOpener, PortFault, PortPaths};
-use dr_live::LiveEnd;
+use dr_io::{ReadSource, Source};
+use dr_io_files::{FileIdentity, FilePorts, OwnedFiles, PathOpener, PortPaths};
 use dr_machine::Kept;
 use dr_refusal::{
     NamedPaths, Refusal, Spent, explain_end, refuse_memory, refuse_unheld, refuse_words,
 };
-use dr_top::command;
+use dr_stream_explain::Trouble;
+use dr_top::{CommandEnd, command};
 use dr_types::Status;
+use std::alloc::Global;
 use std::cell::Cell;
 use std::process::ExitCode;
 use std::rt::Files;
@@ -64,13 +65,12 @@ fn spent_of(kept: &Kept) -> Option<Spent> {
     None
 }
 
-/// What is known of a command that ended so.
+/// What is known of a command that ended so, but for what its ends tell.
 fn refusal_of<'a>(
     words: &'a [String],
-    status: Status,
     file: Option<&'a [u8]>,
-    unread: Option<io::Error>,
-    unwritten: Option<PortFault>,
+    status: Status,
+    trouble: Option<Trouble>,
     spent: Option<Spent>,
 ) -> Refusal<'a> {
     let paths = NamedPaths::of(words);
@@ -78,9 +78,23 @@ fn refusal_of<'a>(
         status,
         paths,
         file,
-        unread,
-        unwritten,
+        trouble,
+        unread: None,
+        unwritten: None,
         spent,
+    }
+}
+
+/// The source of a command: of a migration stream, which may be long, no copy is kept.
+fn kept_source<S: Source + Drop>(
+    alloc: Global,
+    paths: &NamedPaths<'_>,
+    source: S,
+) -> KeptSource<S> {
+    if paths.is_load() {
+        KeptSource::keeping_nothing(source)
+    } else {
+        KeptSource::new(alloc, source)
     }
 }
 
@@ -109,19 +123,18 @@ fn main(rt: HostRuntime) -> Result<ExitCode, io::Error> {
     let paths = NamedPaths::of(words.as_slice());
     let cause = Cell::new(None);
     let input = NotedReader::new(open_input(&rt, paths.input()), &cause);
-    let mut source = KeptSource::new(alloc, ReadSource::new(input));
+    let mut source = kept_source(alloc, &paths, ReadSource::new(input));
     let opener = PathOpener::new(&rt, ports, owned_files(&rt, paths.input()));
     let out = FilePorts::new(alloc, io::writer(&rt), opener);
-    let LiveEnd { status, out, kept } = command(&rt, alloc, words.as_slice(), &mut source, out);
-    let unwritten = out.finish();
-    let spent = kept.as_ref().and_then(spent_of);
-    let refusal = refusal_of(
-        words.as_slice(),
+    let CommandEnd {
         status,
-        source.kept(),
-        cause.get(),
-        unwritten,
-        spent,
-    );
+        out,
+        kept,
+        trouble,
+    } = command(&rt, alloc, words.as_slice(), &mut source, out);
+    let spent = kept.as_ref().and_then(spent_of);
+    let mut refusal = refusal_of(words.as_slice(), source.kept(), status, trouble, spent);
+    refusal.unread = cause.get();
+    refusal.unwritten = out.finish();
     Ok(ExitCode::from(explain_end(&rt, &refusal)))
 }

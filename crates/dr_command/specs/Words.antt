@@ -59,12 +59,21 @@ paths_from (name ∷ path ∷ words) at (Some paths) =
 abbrev pub paths_of : Command → Paths
 paths_of (command.Step paths) = paths
 paths_of (command.Run paths) = paths
+paths_of (command.Load paths) = paths
+
+-- the command `load`, which has neither of the paths of a stream and a journal
+abbrev pub load_with : Paths → Option Command
+load_with paths =
+    if is_some paths.stream then None
+    else if is_some paths.journal then None
+    else Some (command.Load paths)
 
 -- the command of this name, with these paths
 abbrev pub command_named : List ℕ → Paths → Option Command
 command_named name paths =
     if bytes_eq name (codes "step") then Some (command.Step paths)
     else if bytes_eq name (codes "run") then Some (command.Run paths)
+    else if bytes_eq name (codes "load") then load_with paths
     else None
 
 -- the command of this name, where paths are said
@@ -72,7 +81,8 @@ abbrev pub with_paths : List ℕ → Option Paths → Option Command
 with_paths name None = None
 with_paths name (Some paths) = command_named name paths
 
--- the command that these words are: its name, and then each option at most once, with its path
+-- the command that these words are: its name, and then each of its options at most once, with its
+-- path
 abbrev pub command_of : List (List ℕ) → Option Command
 command_of [] = None
 command_of (name ∷ words) = with_paths name (paths_from words 1 (Some no_paths))
@@ -89,6 +99,10 @@ abbrev pub says_run : Option Command → Bool
 says_run (Some (command.Run paths)) = true
 says_run said = false
 
+abbrev pub says_load : Option Command → Bool
+says_load (Some (command.Load paths)) = true
+says_load said = false
+
 -- the words are the command `step`
 abbrev pub is_step : List (List ℕ) → Bool
 is_step words = says_step (command_of words)
@@ -96,3 +110,7 @@ is_step words = says_step (command_of words)
 -- the words are the command `run`
 abbrev pub is_run : List (List ℕ) → Bool
 is_run words = says_run (command_of words)
+
+-- the words are the command `load`
+abbrev pub is_load : List (List ℕ) → Bool
+is_load words = says_load (command_of words)

@@ -22,7 +22,7 @@ fn command(alloc: Global, row: &[&str]) -> Result<Option<Command>, AllocError> {
 fn finds_commands(rt: HostRuntime) -> Result<(), Fail> {
     let none = Paths::none();
     let input = Some(2);
-    let rows: [(&[&str], Option<Command>); 10] = [
+    let rows: [(&[&str], Option<Command>); 16] = [
         (&["step"], Some(Command::Step(none))),
         (&["run"], Some(Command::Run(none))),
         (
@@ -60,6 +60,19 @@ fn finds_commands(rt: HostRuntime) -> Result<(), Fail> {
                 journal: Some(2),
             })),
         ),
+        (&["load"], Some(Command::Load(none))),
+        (
+            &["load", "--image", "a", "--in", "a"],
+            Some(Command::Load(Paths {
+                input: Some(4),
+                image: input,
+                ..none
+            })),
+        ),
+        (&["load", "--stream", "a"], None),
+        (&["load", "--in", "a", "--journal", "a"], None),
+        (&["load", "--in", "a", "--in", "a"], None),
+        (&["load", "a"], None),
         (&["step", "--in", ""], None),
         (&["run", "run"], None),
         (&["walk"], None),

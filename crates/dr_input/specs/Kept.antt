@@ -1,7 +1,7 @@
 -- The bytes that a source gave, kept beside it.
 use Rattle.std.specs.Prelude.{◌≡◌, ℕ, List, ◌++◌, Option, Some, None}
 
--- a source, and the bytes that it gave, where memory for all of them was there
+-- a source, and the bytes that it gave, where it keeps them and memory for all of them was there
 pub record Kept (S : Type 0) : Type 0 where
   pub source : S
   pub bytes : Option (List ℕ)

@@ -1,4 +1,4 @@
-//! Where the program has its guest file from: a source that keeps what it gave, over a reader that
+//! Where the program has its input from: a source that may keep what it gave, over a reader that
 //! notes why a read failed.
 #![tactic(auto)]
 

@@ -1,4 +1,4 @@
-ghost use Rattle.std.specs.Prelude.{◌≡◌, ◌<◌, ◌≤◌, Some, [], IfSome, is_some, length, take};
+ghost use Rattle.std.specs.Prelude.{◌≡◌, ◌<◌, ◌≤◌, Some, None, [], IfSome, is_some, length, take};
 ghost use Rattle.dr_io.specs.Reading.{Reads};
 ghost use Rattle.dr_input.specs.Kept.{IsLonger, MovesBytes};
 
@@ -10,7 +10,7 @@ use std::io;
 use std::io::Read;
 use std::marker::Model;
 
-/// Where a guest file comes from.
+/// Where a command's input comes from.
 #[derive(Drop)]
 pub enum InputFile<R: Read + Drop, F: Read + Drop> {
     /// Standard input.
@@ -55,8 +55,8 @@ impl<R: Read + Drop> Read for NotedReader<'_, R> {
     }
 }
 
-/// A source that keeps a copy of the bytes that it gave, so that a fault in them can be shown.
-/// Contracts see the source and these bytes.
+/// A source that keeps a copy of the bytes that it gave, so that a fault in them can be shown, or
+/// keeps nothing. Contracts see the source and these bytes.
 #[derive(Drop)]
 pub struct KeptSource<S: Source + Drop> {
     source: S,
@@ -83,7 +83,16 @@ impl<S: Source + Drop> KeptSource<S> {
         }
     }
 
-    /// The bytes that it gave; `None` where memory for some of them was refused.
+    /// The source, of which nothing will be kept. It takes no memory, and neither do its reads.
+    pub fn keeping_nothing(source: S) -> KeptSource<S>
+        ensures source { result.source ≡ source }
+        ensures nothing { result.bytes ≡ None }
+    {
+        KeptSource { source, kept: None }
+    }
+
+    /// The bytes that it gave; `None` where it keeps nothing, or memory for some of them was
+    /// refused.
     pub fn kept(&self) -> Option<&[u8]>
         ensures bytes { IfSome result (λ kept. self.now.bytes ≡ Some kept.now) }
         ensures refused { is_some result ≡ is_some self.now.bytes }
@@ -94,18 +103,20 @@ impl<S: Source + Drop> KeptSource<S> {
         }
     }
 
-    /// Keeps these bytes after the others.
+    /// Keeps these bytes after the others, where those were kept.
     fn keep(&mut self, more: &[u8])
         ensures source { self.new.source ≡ self.old.source }
         ensures longer { IfSome self.new.bytes (IsLonger self.old.bytes more.now) }
+        ensures nothing { self.old.bytes ≡ None → self.new.bytes ≡ None }
     {
         self.kept = longer(self.kept.take(), more);
     }
 }
 
-/// The bytes with these after them; `None` where memory is refused, or was before.
+/// The bytes with these after them; `None` where memory is refused, or there were none before.
 fn longer(kept: Option<Bytes>, more: &[u8]) -> Option<Bytes>
-    ensures { IfSome result (IsLonger kept more.now) }
+    ensures longer { IfSome result (IsLonger kept more.now) }
+    ensures nothing { kept ≡ None → result ≡ None }
 {
     let mut kept = kept?;
     match kept.append(more) {
@@ -127,7 +138,7 @@ impl<S: Source + Drop> Source for KeptSource<S> {
 
     ghost faults = { λ k. S.faults k.source };
 
-    /// Reads from its source, and keeps what came.
+    /// Reads from its source, and keeps what came, unless it keeps nothing.
     fn read(&mut self, buf: &mut [u8]) -> ReadTurn
         requires { 0 < length buf.old }
         ensures reads { Reads (S.remaining self.old.source)
@@ -135,6 +146,7 @@ impl<S: Source + Drop> Source for KeptSource<S> {
             (S.remaining self.new.source) (S.faults self.new.source) }
         ensures kept { MovesBytes self.old.bytes (S.remaining self.old.source) self.new.bytes
             (S.remaining self.new.source) }
+        ensures nothing { self.old.bytes ≡ None → self.new.bytes ≡ None }
     {
         let turn = self.source.read(buf);
         if let ReadTurn::Bytes(n) = turn {

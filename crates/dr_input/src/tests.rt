@@ -20,6 +20,18 @@ fn keeps(alloc: Global, text: &str, reads: &[u64], kept: &str) -> Result<bool, A
     Ok(source.kept() == Some(kept.as_bytes()))
 }
 
+/// A source that keeps nothing gives all of this text, and has nothing kept.
+fn gives_unkept(alloc: Global, text: &str) -> Result<bool, AllocError> {
+    let bytes = Listed::from_vec(text.as_bytes().to_vec(alloc)?);
+    let source = ByteSource::new(bytes, 2, Listed::new(alloc));
+    let mut source = KeptSource::keeping_nothing(source);
+    let is_whole = match read_all(alloc, &mut source, 100) {
+        Ok(read) => read.as_slice() == text.as_bytes(),
+        Err(_) => false,
+    };
+    Ok(is_whole && source.kept().is_none())
+}
+
 #[test]
 fn keeps_what_it_gave(rt: HostRuntime) -> Result<(), Fail> {
     // A text, the read that fails, and what is kept.
@@ -34,5 +46,6 @@ fn keeps_what_it_gave(rt: HostRuntime) -> Result<(), Fail> {
     for (text, read, kept) in rows {
         assert!(rt; keeps(rt.alloc(), text, &[read], kept)?, "{text} at {read}");
     }
+    assert!(rt; gives_unkept(rt.alloc(), "abcde")?);
     Ok(())
 }

@@ -1,7 +1,8 @@
 ghost use Rattle.std.specs.Prelude.{◌≡◌, ◌≢◌, ◌↔◌, true, false, None, map, string_bytes};
 ghost use Rattle.dr_types.specs.Ports.{Rose};
 ghost use Rattle.dr_command.specs.Words.{is_run};
-ghost use Rattle.dr_plain.specs.Input.{IfTold, IsGuestFile, Takes};
+ghost use Rattle.dr_command_io.specs.Taking.{IfTold, Takes};
+ghost use Rattle.dr_plain.specs.Input.{IsGuestFile, most_guest_bytes};
 ghost use Rattle.dr_plain.specs.Top.{EndsRun, Says, SomeMigrated};
 
 use crate::live::live;
@@ -37,7 +38,8 @@ fn run_input<
     ensures run { result.status ≢ Status.Words }
     ensures says { Says result.status (S.remaining src.old) result.kept
         (O.told out) (O.told result.out) }
-    ensures takes { Takes result.status (S.remaining src.old) (S.remaining src.new) }
+    ensures takes { Takes most_guest_bytes result.status
+        (S.remaining src.old) (S.remaining src.new) }
     ensures untold { result.status ≡ Status.Done
         → SomeMigrated result.kept (O.told out) (O.told result.out) }
     ensures ends { IfTold (S.remaining src.old) (λ bytes.
@@ -70,7 +72,8 @@ pub fn live_main<
         ↔ (is_run (map string_bytes words.now) ≡ false) }
     ensures says { Says result.status (S.remaining src.old) result.kept
         (O.told out) (O.told result.out) }
-    ensures takes { Takes result.status (S.remaining src.old) (S.remaining src.new) }
+    ensures takes { Takes most_guest_bytes result.status
+        (S.remaining src.old) (S.remaining src.new) }
     ensures untold { result.status ≡ Status.Done
         → SomeMigrated result.kept (O.told out) (O.told result.out) }
     ensures ends { is_run (map string_bytes words.now) ≡ true
@@ -85,7 +88,7 @@ pub fn live_main<
             let Finished { status, out, kept } = run_input(rt, alloc, src, out, clock, gate);
             LiveEnd { status, out, kept }
         }
-        Some(Command::Step(_)) | None => LiveEnd {
+        Some(Command::Step(_) | Command::Load(_)) | None => LiveEnd {
             status: Status::Words,
             out,
             kept: None,

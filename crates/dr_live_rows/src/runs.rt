@@ -2,7 +2,7 @@
 
 use dr_io::{Clock, FixedClock, OpenGate, PortBook};
 use dr_live::{LiveEnd, live_main};
-use dr_plain_testing::source;
+use dr_plain_testing::{LARGE_PIECE, source};
 use dr_types::Listed;
 use std::alloc::{AllocError, Global};
 use std::sync::Wait;
@@ -22,7 +22,7 @@ pub fn command<C: Clock + Sync, R: Threads + Wait + Sync>(
         said.push(String::from_str(alloc, word)?)?;
     }
     let fails = puts.to_vec(alloc)?;
-    let mut source = source(alloc, file, false, &[])?;
+    let mut source = source(alloc, file, LARGE_PIECE, &[])?;
     let out = PortBook::new(alloc, Listed::from_vec(fails));
     Ok(live_main(
         rt,

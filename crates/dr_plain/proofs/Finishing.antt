@@ -23,11 +23,12 @@ use Rattle.dr_turns.specs.Due.{run_end}
 use Rattle.dr_turns.specs.declared.answers.RunEnd.{RunEnd}
 use Rattle.dr_turns.specs.declared.answers.RunEnd.TheVariants as end
 use Rattle.dr_schedule_law.proofs.Told.{spent_is_told}
-use Rattle.dr_plain.proofs.Cuts.{cut_after}
-use Rattle.dr_plain.specs.declared.ending.PutFault.{PutFault}
-use Rattle.dr_plain.specs.declared.ending.PutFault.TheVariants as fault
-use Rattle.dr_plain.specs.Ended.{IsWhole, status_of_end}
-use Rattle.dr_plain.specs.Puts.{IsFault, puts_after, puts_of}
+use Rattle.dr_command_io.proofs.Cuts.{cut_after}
+use Rattle.dr_command_io.specs.declared.fault.PutFault.{PutFault}
+use Rattle.dr_command_io.specs.declared.fault.PutFault.TheVariants as fault
+use Rattle.dr_plain.specs.Ended.{IsWhole}
+use Rattle.dr_command_io.specs.Puts.{IsFault, status_of_end}
+use Rattle.dr_plain.specs.Puts.{puts_after, puts_of}
 use Rattle.dr_plain.specs.Top.{IsRunOf, IsCutOff, RunSays, SchedulesAs}
 
 -- there is a switch-over where the last event is one

@@ -3,3 +3,4 @@ pub mod Cuts
 pub mod Reading
 pub mod Finishing
 pub mod Tops
+pub mod Commands

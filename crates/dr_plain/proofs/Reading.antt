@@ -1,72 +1,46 @@
--- What reading a source to its end says of its bytes.
-use Rattle.std.proofs.Common.{◌≡◌, ◌≢◌, ℕ, ◌+◌, ◌<◌, ◌≤◌, List, [], length, drop, Option, Some, Result, Ok, Err, ap, sym, ◌∙◌, subst, arith}
+-- What reading a guest file says of its source.
+use Rattle.std.proofs.Common.{◌≡◌, ◌≢◌, ℕ, List, Option, Ok, Err}
+use Rattle.dr_types.specs.declared.guest.Guest.{Guest}
 use Rattle.dr_types.specs.declared.fault.FileFault.{FileFault}
 use Rattle.dr_types.specs.declared.fault.FileFault.TheVariants as fault
-use Rattle.dr_io.specs.declared.reading.ReadFault.{ReadFault}
-use Rattle.dr_io.specs.declared.reading.ReadFault.TheVariants.{Failed, TooLong}
-use Rattle.dr_io.specs.Reading.{ReadsAll}
-use Rattle.std.proofs.lemmas.List.{drop_all}
-use Rattle.dr_plain.specs.Input.{IfTold, IsDrained, IsRefusal, IsRefused, Takes, TakesFew, TakesMany, TakesPart, most_bytes, status_of_fault}
-
--- more bytes than the limit were there
-pub too_long : (limit : ℕ) (old : Option (List ℕ)) (before : ℕ) (r : Result (List ℕ) ReadFault) (new : Option (List ℕ)) (now : ℕ)
-    → ReadsAll limit old before r new now → r ≡ Err TooLong → IfTold old (λ bytes. limit < length bytes)
-too_long limit old before r new now reads is bytes told =
-    let part = reads.part TooLong bytes is told in
-    let more : limit + length (drop part.0 bytes) < length bytes = reads.long bytes (drop part.0 bytes) is told part.2 in
-    omega (arith, more)
-
--- what holds of the bytes that were read holds of those that were there, and they are within the limit
-pub told_bytes : (limit : ℕ) (old : Option (List ℕ)) (before : ℕ) (r : Result (List ℕ) ReadFault) (new : Option (List ℕ)) (now : ℕ) (bytes : List ℕ)
-    → ReadsAll limit old before r new now → r ≡ Ok bytes → (P : List ℕ → Type 0) → P bytes → IfTold old (λ told. (length told ≤ limit) × P told)
-told_bytes limit old before r new now bytes reads is P p told at =
-    let same = (reads.all bytes told is at).0 in
-    let Short : List ℕ → Type 0 = λ xs. length xs ≤ limit in
-    (subst Short same (reads.fits bytes is), subst P same p)
+use Rattle.dr_types.specs.declared.status.Status.{Status}
+use Rattle.dr_types.specs.declared.status.Status.TheVariants.{Source, Memory, TooLong}
+use Rattle.dr_types.specs.Validity.{IsValid}
+use Rattle.dr_guestfile.specs.GuestTexts.{guest_of}
+use Rattle.dr_command_io.specs.Taking.{IfTold, IsAll, IsDrained, IsUnread, Takes}
+use Rattle.dr_command_io.proofs.Reading.{drained_part, of_told}
+use Rattle.dr_plain.specs.Input.{IsRead, IsRefusal, IsRefused, most_guest_bytes, status_of_fault}
 
 -- a fault of the file, where it isn't want of memory
 pub refusal_of : (remaining : Option (List ℕ)) (before now : ℕ) (why : FileFault) → (why ≢ fault.Memory → IfTold remaining (IsRefused why)) → IsRefusal (status_of_fault why) remaining before now
 refusal_of remaining before now fault.Memory h = tt
 refusal_of remaining before now why h = ((λ e. cc e), h (λ e. cc e))
 
--- all that was told was read
-pub drained : (old : Option (List ℕ)) (before : ℕ) (r : Result (List ℕ) ReadFault) (new : Option (List ℕ)) (now : ℕ) (bytes : List ℕ)
-    → ReadsAll most_bytes old before r new now → r ≡ Ok bytes → IsDrained old new
-drained old before r new now bytes reads is told at =
-    let all = reads.all bytes told is at in
-    let Short : List ℕ → Type 0 = λ xs. length xs ≤ most_bytes in
-    (all.1, subst Short all.0 (reads.fits bytes is))
-
--- then some first part of it was taken
-pub drained_part : (old new : Option (List ℕ)) → IsDrained old new → IfTold old (λ bytes. TakesPart bytes new)
-drained_part old new all told at =
-    let gone = all told at in
-    record {
-      part = (length told, omega arith, gone.0 ∙ ap (λ xs. Some xs) (sym (drop_all (length told) told (omega arith))));
-      rest = [];
-      remaining = gone.0;
-      most = omega (arith, gone.1);
-    }
-
-pub some_part : (old : Option (List ℕ)) (before : ℕ) (r : Result (List ℕ) ReadFault) (new : Option (List ℕ)) (now : ℕ) (why : ReadFault)
-    → ReadsAll most_bytes old before r new now → r ≡ Err why → IfTold old (λ bytes. TakesPart bytes new)
-some_part old before r new now why reads is told at =
-    let part = reads.part why told is at in
-    record { part = part; rest = drop part.0 told; remaining = part.2; most = reads.most told (drop part.0 told) at part.2 }
-
-pub took_many : (old : Option (List ℕ)) (before : ℕ) (r : Result (List ℕ) ReadFault) (new : Option (List ℕ)) (now : ℕ)
-    → ReadsAll most_bytes old before r new now → r ≡ Err TooLong → IfTold old (λ bytes. TakesMany bytes new)
-took_many old before r new now reads is told at =
-    let part = reads.part TooLong told is at in
-    record { rest = drop part.0 told; remaining = part.2; many = reads.long told (drop part.0 told) is at part.2; most = reads.most told (drop part.0 told) at part.2 }
-
-pub took_few : (old : Option (List ℕ)) (before : ℕ) (r : Result (List ℕ) ReadFault) (new : Option (List ℕ)) (now : ℕ)
-    → ReadsAll most_bytes old before r new now → r ≡ Err Failed → IfTold old (λ bytes. TakesFew bytes new)
-took_few old before r new now reads is told at =
-    let part = reads.part Failed told is at in
-    record { rest = drop part.0 told; remaining = part.2; few = reads.short told (drop part.0 told) is at part.2 }
+-- where the file wasn't read whole no guest was read
+pub unread_refusal : (s : Status) (remaining : Option (List ℕ)) (before now : ℕ) → IsUnread most_guest_bytes s remaining before now → IsRefusal s remaining before now
+unread_refusal Source remaining before now unread = unread
+unread_refusal Memory remaining before now unread = unread
+unread_refusal TooLong remaining before now unread = unread
+unread_refusal s remaining before now unread = absurd unread
 
 -- a fault of the file comes when all was read
-pub fault_takes : (why : FileFault) (old new : Option (List ℕ)) → IsDrained old new → Takes (status_of_fault why) old new
-fault_takes fault.Memory old new all = drained_part old new all
+pub fault_takes : (why : FileFault) (old new : Option (List ℕ)) → IsDrained most_guest_bytes old new → Takes most_guest_bytes (status_of_fault why) old new
+fault_takes fault.Memory old new all = drained_part most_guest_bytes old new all
 fault_takes why old new all = all
+
+-- the guest that the bytes say was read from the source that told them
+pub guest_told : (remaining : Option (List ℕ)) (bytes : List ℕ) (guest : Guest) → IfTold remaining (IsAll most_guest_bytes bytes) → guest_of bytes ≡ Ok guest → IsValid guest → IsRead remaining guest
+guest_told remaining bytes guest all says valid = record {
+  file = of_told most_guest_bytes remaining bytes (λ told. guest_of told ≡ Ok guest) all says;
+  valid = valid;
+}
+
+-- the fault that the bytes have is that of the source that told them
+pub fault_told : (remaining : Option (List ℕ)) (before now : ℕ) (bytes : List ℕ) (why : FileFault) (s : Status) → s ≡ status_of_fault why → IfTold remaining (IsAll most_guest_bytes bytes)
+    → (why ≢ fault.Memory → guest_of bytes ≡ Err why) → IsRefusal s remaining before now
+fault_told remaining before now bytes why s is all says =
+    rw is (refusal_of remaining before now why (λ known. of_told most_guest_bytes remaining bytes (λ told. guest_of told ≡ Err why) all (says known)))
+
+-- what was taken where the file has a fault
+pub fault_took : (why : FileFault) (old new : Option (List ℕ)) (s : Status) → s ≡ status_of_fault why → IsDrained most_guest_bytes old new → Takes most_guest_bytes s old new
+fault_took why old new s is all = rw is (fault_takes why old new all)

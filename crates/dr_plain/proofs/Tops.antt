@@ -8,9 +8,10 @@ use Rattle.dr_types.specs.Ports.{Ports, Rose}
 use Rattle.dr_types.specs.Validity.{IsValid}
 use Rattle.dr_guestfile.specs.GuestTexts.{guest_of}
 use Rattle.dr_machine.specs.Views.{KeptView}
-use Rattle.dr_plain.specs.Input.{IsDrained, IsGuestFile, IsRead, IsRefusal, Takes, most_bytes}
+use Rattle.dr_command_io.specs.Taking.{IsDrained, Takes}
+use Rattle.dr_plain.specs.Input.{IsGuestFile, IsRead, IsRefusal, most_guest_bytes}
 use Rattle.dr_plain.specs.Top.{EndsRun, IsMigrated, RunSays, Says, SomeMigrated}
-use Rattle.dr_plain.proofs.Reading.{drained_part}
+use Rattle.dr_command_io.proofs.Reading.{drained_part}
 
 -- the status of a run says the same of the source that its guest was read from
 pub says_run : (s : Status) (remaining : Option (List ℕ)) (guest : Guest) (kept : Option KeptView) (old new : Ports) → IsRead remaining guest → RunSays s guest kept old new
@@ -22,12 +23,12 @@ says_run Memory remaining guest kept old new read says = inr (record { guest = g
 says_run s remaining guest kept old new read says = absurd says
 
 -- however a run ends, all was read before it
-pub takes_run : (s : Status) (remaining rest : Option (List ℕ)) (guest : Guest) (kept : Option KeptView) (old new : Ports) → IsDrained remaining rest → RunSays s guest kept old new
-    → Takes s remaining rest
+pub takes_run : (s : Status) (remaining rest : Option (List ℕ)) (guest : Guest) (kept : Option KeptView) (old new : Ports) → IsDrained most_guest_bytes remaining rest → RunSays s guest kept old new
+    → Takes most_guest_bytes s remaining rest
 takes_run Done remaining rest guest kept old new all says = all
 takes_run Unfinished remaining rest guest kept old new all says = all
 takes_run Outlet remaining rest guest kept old new all says = all
-takes_run Memory remaining rest guest kept old new all says = drained_part remaining rest all
+takes_run Memory remaining rest guest kept old new all says = drained_part most_guest_bytes remaining rest all
 takes_run s remaining rest guest kept old new all says = absurd says
 
 -- where no guest was read nothing was put
@@ -78,7 +79,7 @@ runs (GuestFile why) remaining kept old new bytes says step told file = let no :
 runs Outlet remaining kept old new bytes says step told file = tt
 runs Source remaining kept old new bytes says step told file = tt
 runs Memory remaining kept old new bytes says step told file = tt
-runs TooLong remaining kept old new bytes says step told file = let long : most_bytes < length bytes = says.1 bytes told in omega (arith, long, file.file.0)
+runs TooLong remaining kept old new bytes says step told file = let long : most_guest_bytes < length bytes = says.1 bytes told in omega (arith, long, file.file.0)
 runs other remaining kept old new bytes says step told file = absurd says
 
 -- how a command ends that reads a guest file and runs its guest

@@ -1,25 +1,16 @@
 -- What the puts after a run leave.
-use Rattle.std.specs.Prelude.{Result, Ok, Err}
 use Rattle.dr_types.specs.declared.guest.Guest.{Guest}
 use Rattle.dr_types.specs.declared.status.Status.{Status}
-use Rattle.dr_types.specs.declared.status.Status.TheVariants.{Done, Unfinished, Outlet, Memory}
+use Rattle.dr_types.specs.declared.status.Status.TheVariants.{Done, Unfinished}
 use Rattle.dr_machine.specs.Views.{KeptView, MachineView}
 use Rattle.dr_run.specs.declared.outcome.OutcomeEnd.{OutcomeEnd}
 use Rattle.dr_run.specs.declared.outcome.OutcomeEnd.TheVariants as outcome
-use Rattle.dr_plain.specs.declared.ending.PutFault.{PutFault}
-use Rattle.dr_plain.specs.declared.ending.PutFault.TheVariants as fault
 
 -- the status of a run that was not cut off
 abbrev pub IsWhole : OutcomeEnd → Status → Type 0
 IsWhole outcome.Switched Done = Unit {0}
 IsWhole outcome.Budget Unfinished = Unit {0}
 IsWhole e other = ⊥
-
--- the status of a run, by what the puts after it answered
-abbrev pub status_of_end : Result Status PutFault → Status
-status_of_end (Ok s) = s
-status_of_end (Err fault.Outlet) = Outlet
-status_of_end (Err fault.Memory) = Memory
 
 -- what is left of a machine of this guest
 abbrev pub left_of : Guest → MachineView → KeptView

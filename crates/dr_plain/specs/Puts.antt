@@ -1,9 +1,8 @@
 -- What a command puts on its four ports.
-use Rattle.std.specs.Prelude.{◌≡◌, ℕ, List, [], ◌∷◌, take}
+use Rattle.std.specs.Prelude.{ℕ, List, [], ◌∷◌}
 use Rattle.dr_types.specs.declared.guest.Guest.{Guest}
 use Rattle.dr_types.specs.declared.port.Port.{Port}
 use Rattle.dr_types.specs.declared.port.Port.TheVariants as port
-use Rattle.dr_types.specs.Ports.{Ports, put_at, Rose}
 use Rattle.dr_history.specs.declared.event.Event.{Event}
 use Rattle.dr_history.specs.Memory.{image_of}
 use Rattle.dr_history.specs.Journal.{journal_text}
@@ -12,8 +11,6 @@ use Rattle.dr_history.specs.Stream.{stream_of}
 use Rattle.dr_turns.specs.Due.{run_end}
 use Rattle.dr_turns.specs.declared.answers.RunEnd.{RunEnd}
 use Rattle.dr_turns.specs.declared.answers.RunEnd.TheVariants as end
-use Rattle.dr_plain.specs.declared.ending.PutFault.{PutFault}
-use Rattle.dr_plain.specs.declared.ending.PutFault.TheVariants as fault
 
 -- the two texts of a run, in the order in which they are put
 abbrev pub texts_of : Guest → List Event → List (Port × List ℕ)
@@ -31,12 +28,3 @@ puts_after end.Open guest past = []
 abbrev pub puts_of : Guest → List Event → List (Port × List ℕ)
 puts_of guest past =
     (port.Stream, stream_of guest past) ∷ puts_after (run_end guest past) guest past
-
--- a first part of the bytes was put
-abbrev pub PutsPart : Port → List ℕ → Ports → Ports → Type 0
-PutsPart at bytes old new = (n : ℕ) × (new ≡ put_at at (take n bytes) old)
-
--- where the outlet failed its count of faults has risen
-abbrev pub IsFault : ℕ → ℕ → PutFault → Type 0
-IsFault before now fault.Outlet = Rose before now
-IsFault before now fault.Memory = Unit {0}

@@ -20,7 +20,8 @@ use Rattle.dr_seat_law.specs.Seats.{AreSeats}
 use Rattle.dr_schedule_law.specs.Spent.{AreSpent}
 use Rattle.dr_turns.specs.Due.{run_end}
 use Rattle.dr_turns.specs.declared.answers.RunEnd.TheVariants as end
-use Rattle.dr_plain.specs.Input.{IfTold, IsRead, IsRefused, most_bytes}
+use Rattle.dr_command_io.specs.Taking.{IfTold}
+use Rattle.dr_plain.specs.Input.{IsRead, IsRefused, most_guest_bytes}
 use Rattle.dr_plain.specs.Puts.{puts_of}
 
 -- What is kept is of a machine that ran this guest: its history is legal, each event has a line of
@@ -85,7 +86,7 @@ pub record HasQuit (kept : Option KeptView) (old new : Ports) : Type 0 where
   pub none : kept ≡ None
   pub ports : new ≡ old
 
--- what a status says of the source's bytes, of what is kept, and of the ports
+-- what a status of `step` or `run` says of the source's bytes, of what is kept, and of the ports
 abbrev pub Says : Status → Option (List ℕ) → Option KeptView → Ports → Ports → Type 0
 Says Done remaining kept old new = HasRun Done remaining kept old new
 Says Unfinished remaining kept old new = HasRun Unfinished remaining kept old new
@@ -96,7 +97,7 @@ Says Source remaining kept old new = HasQuit kept old new
 Says (GuestFile why) remaining kept old new =
     HasQuit kept old new × (why ≢ fault.Memory) × IfTold remaining (IsRefused why)
 Says TooLong remaining kept old new =
-    HasQuit kept old new × IfTold remaining (λ bytes. most_bytes < length bytes)
+    HasQuit kept old new × IfTold remaining (λ bytes. most_guest_bytes < length bytes)
 Says other remaining kept old new = ⊥
 
 -- some valid guest was migrated, whatever the source tells
@@ -111,7 +112,7 @@ abbrev pub IsSomeBut : Status → Option Status → Type 0
 IsSomeBut s None = ⊥
 IsSomeBut s (Some other) = other ≢ s
 
--- how a command may end whose source tells a guest file
+-- how `step` and `run` may end whose source tells a guest file
 abbrev pub EndsRun : Status → Type 0
 EndsRun Done = Unit {0}
 EndsRun Unfinished = Unit {0}

@@ -9,51 +9,20 @@ ghost use Rattle.dr_history.specs.Stream.{stream_of};
 ghost use Rattle.dr_run.specs.Outcomes.{SendsAs, StandsAs};
 ghost use Rattle.dr_turns.specs.declared.answers.RunEnd.TheVariants as end;
 ghost use Rattle.dr_plain.specs.Ended.{IsWhole};
-ghost use Rattle.dr_plain.specs.Puts.{IsFault, PutsPart, puts_after, puts_of, texts_of};
+ghost use Rattle.dr_command_io.specs.Puts.{IsFault, PutsPart};
+ghost use Rattle.dr_plain.specs.Puts.{puts_after, puts_of, texts_of};
 
 use crate::journal::journal;
+use dr_command_io::{PutFault, put};
 use dr_history::History;
-use dr_io::{Outlet, Port, PutTurn};
+use dr_io::{Outlet, Port};
 use dr_machine::Machine;
 use dr_report::report_text;
 use dr_ring::Name;
 use dr_run::OutcomeEnd;
 use dr_slots::page_count;
-use dr_types::{Guest, Memory, Status};
+use dr_types::{Guest, Status};
 use std::alloc::Global;
-
-/// Why the puts of a run came to an early end.
-#[derive(Clone, Copy, Debug, PartialEq, Eq)]
-pub enum PutFault {
-    /// A put failed.
-    Outlet,
-    /// An allocation was refused.
-    Memory,
-}
-
-impl From<Memory> for PutFault {
-    ghost use Rattle.std.specs.Prelude.{◌≡◌};
-    ghost use Rattle.dr_plain.specs.declared.ending.PutFault.TheVariants.{Memory};
-
-    ghost from_gives = { λ _ fault. fault ≡ Memory };
-
-    fn from(_error: Memory) -> PutFault {
-        PutFault::Memory
-    }
-}
-
-/// One put.
-fn put<O: Outlet>(out: &mut O, port: Port, bytes: &[u8]) -> Result<(), PutFault>
-    ensures done { OnOk result (O.told out.new ≡ put_at port bytes.now (O.told out.old)) }
-    ensures cut { OnErr result (PutsPart port bytes.now (O.told out.old) (O.told out.new)) }
-    ensures later { O.faults out.old ≤ O.faults out.new }
-    ensures fault { IfErr result (IsFault (O.faults out.old) (O.faults out.new)) }
-{
-    match out.put(port, bytes) {
-        PutTurn::Done => Ok(()),
-        PutTurn::Failed => Err(PutFault::Outlet),
-    }
-}
 
 /// Puts the guest's memory on Image, page by page.
 #[tactic(auto, using(crate::proofs::Images::page_more, crate::proofs::Images::no_page))]

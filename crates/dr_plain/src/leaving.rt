@@ -3,10 +3,11 @@ ghost use Rattle.dr_types.specs.Ports.{Rose};
 ghost use Rattle.dr_types.specs.Validity.{IsValid};
 ghost use Rattle.dr_history.specs.Stream.{stream_of};
 ghost use Rattle.dr_run.specs.Outcomes.{EndsAs, SendsAs, StandsAs};
-ghost use Rattle.dr_plain.specs.Ended.{left_of, status_of_end};
+ghost use Rattle.dr_plain.specs.Ended.{left_of};
 ghost use Rattle.dr_plain.specs.Top.{IsRunOf, RunSays, SchedulesAs};
 
-use crate::ending::{PutFault, put_after};
+use crate::ending::put_after;
+use dr_command_io::status_of_puts;
 use dr_io::Outlet;
 use dr_machine::{Kept, Machine};
 use dr_ring::Name;
@@ -21,17 +22,6 @@ pub struct Finished<O: Outlet> {
     pub status: Status,
     pub out: O,
     pub kept: Option<Kept>,
-}
-
-/// The status of a run, by what the puts after it answered.
-fn status_of(end: Result<Status, PutFault>) -> Status
-    ensures { result ≡ status_of_end end }
-{
-    match end {
-        Ok(status) => status,
-        Err(PutFault::Outlet) => Status::Outlet,
-        Err(PutFault::Memory) => Status::Memory,
-    }
 }
 
 /// What a machine keeps is all that its run says of it.
@@ -64,7 +54,7 @@ pub fn finish<N: Name, O: Outlet>(
         → SchedulesAs result.status N.guest machine.past }
     ensures outlet { result.status ≡ Status.Outlet → Rose N.faults (O.faults result.out) }
 {
-    let status = status_of(put_after(alloc, &machine, end, &mut out));
+    let status = status_of_puts(put_after(alloc, &machine, end, &mut out));
     Finished {
         status,
         out,

@@ -1,7 +1,7 @@
 //! Runs of the smallest guest that end early, at a put or a read that fails.
 
 use dr_io::{FixedClock, Port};
-use dr_plain_testing::{guest_file, journal_of, lengths, report_of, source, step, step_on};
+use dr_plain_testing::{Ran, guest_file, journal_of, lengths, report_of, source, step, step_on};
 use dr_types::Status;
 use std::alloc::{AllocError, Global};
 use std::test::Fail;
@@ -60,11 +60,17 @@ fn leaves_first_parts(rt: HostRuntime) -> Result<(), Fail> {
     Ok(())
 }
 
-/// The run with one read failing ends there, and puts nothing.
-fn is_unread(alloc: Global, read: u64) -> Result<bool, AllocError> {
+/// The run over a file in pieces of this length, with one read failing.
+fn unread(alloc: Global, piece: usize, read: u64) -> Result<Ran, AllocError> {
     let file = guest_file(alloc, "")?;
-    let mut source = source(alloc, &file, true, &[read])?;
-    let end = step(alloc, &mut source, &[], &FixedClock { now: 0 })?;
+    let mut source = source(alloc, &file, piece, &[read])?;
+    step(alloc, &mut source, &[], &FixedClock { now: 0 })
+}
+
+/// The run over a file in pieces of this length, with one read failing, ends there and puts
+/// nothing.
+fn is_unread(alloc: Global, piece: usize, read: u64) -> Result<bool, AllocError> {
+    let end = unread(alloc, piece, read)?;
     let nothing = !end.is_kept && lengths(&end.out) == [0, 0, 0, 0];
     Ok(end.status == Some(Status::Source) && nothing)
 }
@@ -72,7 +78,12 @@ fn is_unread(alloc: Global, read: u64) -> Result<bool, AllocError> {
 #[test]
 fn stops_at_a_failing_read(rt: HostRuntime) -> Result<(), Fail> {
     for read in [1, 2, 98] {
-        assert!(rt; is_unread(rt.alloc(), read)?, "read {read}");
+        assert!(rt; is_unread(rt.alloc(), 1, read)?, "read {read}");
     }
+    // The file has 97 bytes: fourteen pieces of seven, and a read that finds the end.
+    for read in 1..16 {
+        assert!(rt; is_unread(rt.alloc(), 7, read)?, "read {read}");
+    }
+    assert!(rt; unread(rt.alloc(), 7, 16)?.status == Some(Status::Done));
     Ok(())
 }

@@ -3,7 +3,7 @@
 
 use dr_io::{FixedClock, PortFiles};
 use dr_plain::plain_main;
-use dr_plain_testing::source;
+use dr_plain_testing::{LARGE_PIECE, source};
 use dr_types::Status;
 use std::alloc::{AllocError, Global};
 use std::io;
@@ -64,7 +64,7 @@ fn ends(alloc: Global, row: Row) -> Result<Option<Status>, AllocError> {
     let mut file = String::new(alloc);
     push_settings(alloc, &mut file, row)?;
     push_scripts(alloc, &mut file)?;
-    let mut source = source(alloc, &file, false, &[])?;
+    let mut source = source(alloc, &file, LARGE_PIECE, &[])?;
     let words = vec![in alloc; String::from_str(alloc, "step")?]?;
     let sink = || Some(io::sink());
     let out = PortFiles::new(sink(), sink(), sink(), sink());

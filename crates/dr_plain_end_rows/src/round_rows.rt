@@ -1,7 +1,7 @@
 //! When the clock is read, and where the rounds end.
 
 use dr_io::{Clock, Port, PortBook};
-use dr_plain_testing::{guest_file, joined, source, step, step_on};
+use dr_plain_testing::{LARGE_PIECE, guest_file, joined, source, step, step_on};
 use dr_types::Status;
 use std::alloc::{AllocError, Global};
 use std::cell::Cell;
@@ -27,7 +27,7 @@ impl Clock for TickingClock {
 
 /// The journal of this guest file, by a clock that goes on from this time, is this.
 fn writes(alloc: Global, file: &str, from: u64, journal: &str) -> Result<bool, AllocError> {
-    let mut source = source(alloc, file, false, &[])?;
+    let mut source = source(alloc, file, LARGE_PIECE, &[])?;
     let clock = TickingClock {
         ticks: Cell::new(from),
     };

@@ -1,7 +1,7 @@
 //! How often and how long vCPUs sleep.
 
 use dr_io::Clock;
-use dr_plain_testing::{joined, source, step};
+use dr_plain_testing::{LARGE_PIECE, joined, source, step};
 use dr_types::Status;
 use std::alloc::{AllocError, Global};
 use std::cell::Cell;
@@ -29,7 +29,7 @@ impl Clock for SleepCounter {
 
 /// The guest of this file is migrated, and sleeps so often and so long.
 fn sleeps(alloc: Global, file: &str, sleeps: u64, us: u64) -> Result<bool, AllocError> {
-    let mut source = source(alloc, file, false, &[])?;
+    let mut source = source(alloc, file, LARGE_PIECE, &[])?;
     let clock = SleepCounter {
         sleeps: Cell::new(0),
         us: Cell::new(0),

@@ -1,7 +1,7 @@
 //! Guests of one page.
 
 use dr_io::{FixedClock, Port, PortBook};
-use dr_plain_testing::{guest_file, journal_of, report_of, source, step};
+use dr_plain_testing::{LARGE_PIECE, guest_file, journal_of, report_of, source, step};
 use dr_types::Status;
 use std::alloc::{AllocError, Global};
 use std::test::Fail;
@@ -46,7 +46,8 @@ struct Row {
     executed: u32,
     /// What the clock reads.
     now: u64,
-    bytewise: bool,
+    /// How many bytes of the file come at most with a read.
+    piece: usize,
 }
 
 const HALT: Row = Row {
@@ -55,7 +56,7 @@ const HALT: Row = Row {
     last: 0,
     executed: 1,
     now: 0,
-    bytewise: false,
+    piece: LARGE_PIECE,
 };
 
 /// The four ports hold what a row's run leaves, whose guest file this is.
@@ -75,7 +76,7 @@ fn leaves(alloc: Global, row: &Row, file: &str, out: &PortBook) -> Result<bool, 
 /// A row's guest is migrated.
 fn migrates(alloc: Global, row: &Row) -> Result<bool, AllocError> {
     let file = guest_file(alloc, row.ops)?;
-    let mut source = source(alloc, &file, row.bytewise, &[])?;
+    let mut source = source(alloc, &file, row.piece, &[])?;
     let end = step(alloc, &mut source, &[], &FixedClock { now: row.now })?;
     if end.status == Some(Status::Done) {
         leaves(alloc, row, &file, &end.out)
@@ -87,10 +88,7 @@ fn migrates(alloc: Global, row: &Row) -> Result<bool, AllocError> {
 #[test]
 fn migrates_one_page(rt: HostRuntime) -> Result<(), Fail> {
     let later = Row { now: 7, ..HALT };
-    let in_bytes = Row {
-        bytewise: true,
-        ..HALT
-    };
+    let in_bytes = Row { piece: 1, ..HALT };
     let last_byte = Row {
         ops: "w 4095 01\n",
         events: "w 0 0 4095 01\nh 0 1\n",

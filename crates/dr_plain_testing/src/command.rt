@@ -1,8 +1,10 @@
 //! The command `step` over a file in memory.
 ghost use Rattle.std.specs.Prelude.{◌≡◌, ◌∷◌, [], IfOk, IfSome, Some, is_some, length};
+ghost use Rattle.std.specs.Prelude.{map, string_bytes};
 ghost use Rattle.dr_io.specs.Book.{empty_book, told_by};
-ghost use Rattle.dr_plain.specs.Top.{Says};
-ghost use Rattle.dr_plain_testing.specs.Leaving.{Leaves};
+ghost use Rattle.dr_command.specs.Words.{command_of};
+ghost use Rattle.dr_plain.specs.Commands.{SaysOf};
+ghost use Rattle.dr_plain_testing.specs.Leaving.{Leaves, step_words};
 
 use dr_io::{ByteSource, Clock, FixedClock, Port, PortBook};
 use dr_plain::{PlainEnd, plain_main};
@@ -14,22 +16,27 @@ fn numbers(alloc: Global, numbers: &[u64]) -> Result<NumberList, AllocError> {
     Ok(Listed::from_vec(numbers.to_vec(alloc)?))
 }
 
-/// A file that comes byte by byte or in large pieces, with the reads of these numbers failing.
+/// How many bytes of a file come at most with a read.
+pub const LARGE_PIECE: usize = 4096;
+
+/// A file that comes in pieces of this length, but of no less than a byte, with the reads of these
+/// numbers failing.
 pub fn source(
     alloc: Global,
     file: &str,
-    bytewise: bool,
+    piece: usize,
     reads: &[u64],
 ) -> Result<ByteSource, AllocError>
     ensures { IfOk result (λ s. s.remaining ≡ file.now) }
 {
-    let piece = if bytewise { 1 } else { 4096 };
     let bytes = Listed::from_vec(file.as_bytes().to_vec(alloc)?);
-    Ok(ByteSource::new(bytes, piece, numbers(alloc, reads)?))
+    Ok(ByteSource::new(bytes, piece.max(1), numbers(alloc, reads)?))
 }
 
 /// The words of the command.
-fn step_word(alloc: Global) -> Result<Vec<String>, AllocError> {
+fn step_word(alloc: Global) -> Result<Vec<String>, AllocError>
+    ensures { IfOk result (λ words. map string_bytes words.items ≡ step_words) }
+{
     Ok(vec![in alloc; String::from_str(alloc, "step")?]?)
 }
 
@@ -47,7 +54,12 @@ fn without_machine(end: PlainEnd<PortBook>) -> Ran
     ensures out { result.out ≡ end.out }
     ensures kept { result.is_kept ≡ is_some end.kept }
 {
-    let PlainEnd { status, out, kept } = end;
+    let PlainEnd {
+        status,
+        out,
+        kept,
+        ..
+    } = end;
     Ran {
         status,
         out,
@@ -73,7 +85,7 @@ pub fn step<C: Clock>(
 pub fn step_on(alloc: Global, file: &str, puts: &[u64], now: u64) -> Result<Ran, AllocError>
     ensures { IfOk result (λ ran. Leaves file.now ran.status ran.out ran.is_kept) }
 {
-    let mut source = source(alloc, file, false, &[])?;
+    let mut source = source(alloc, file, LARGE_PIECE, &[])?;
     step(alloc, &mut source, puts, &FixedClock { now })
 }
 

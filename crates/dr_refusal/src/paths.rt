@@ -1,4 +1,7 @@
-use dr_command::{Paths, read_command};
+ghost use Rattle.std.specs.Prelude.{◌≡◌, map, string_bytes};
+ghost use Rattle.dr_command.specs.Words.{is_load};
+
+use dr_command::{Command, Paths, read_command};
 use dr_io::Port;
 use dr_io_files::PortPaths;
 use std::alloc::AllocError;
@@ -24,7 +27,17 @@ impl<'a> NamedPaths<'a> {
         Some(self.words.get(place?)?.as_str())
     }
 
-    /// The path of the guest file.
+    /// The words are the command `load`.
+    pub fn is_load(&self) -> bool
+        ensures { result ≡ is_load (map string_bytes self.now.words.now) }
+    {
+        match read_command(self.words) {
+            Some(Command::Load(_)) => true,
+            _ => false,
+        }
+    }
+
+    /// The path of the input.
     pub fn input(&self) -> Option<&'a str> {
         self.at(self.places.input)
     }

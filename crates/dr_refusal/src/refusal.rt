@@ -3,8 +3,9 @@ use dr_guestfile_explain::{Explained, explain};
 use dr_io::Port;
 use dr_io_files::{Owner, PortCause, PortFault};
 use dr_shell::Shown;
-use dr_types::limits::MOST_GUEST_BYTES;
-use dr_types::{FileFault, Memory, Status};
+use dr_stream_explain::Trouble;
+use dr_types::limits::{MOST_GUEST_BYTES, MOST_STREAM_BYTES};
+use dr_types::{FileFault, Memory, Status, StreamFault};
 use std::io;
 
 /// What a guest whose rounds are spent came to.
@@ -25,6 +26,8 @@ pub struct Refusal<'a> {
     pub paths: NamedPaths<'a>,
     /// The bytes that were read, where they were kept.
     pub file: Option<&'a [u8]>,
+    /// What helps to find the damage, where a migration stream is refused.
+    pub trouble: Option<Trouble>,
     /// Why the last read failed that did.
     pub unread: Option<io::Error>,
     /// The first port that failed.
@@ -42,21 +45,24 @@ impl<'a> Refusal<'a> {
     }
 }
 
-/// The usage of the program, with an example.
+/// The usage of the program, with examples.
 const USAGE: &str = "\
 usage: dirtyring_cli step [--in PATH] [--stream PATH] [--image PATH] [--journal PATH]
        dirtyring_cli run [--in PATH] [--stream PATH] [--image PATH] [--journal PATH]
+       dirtyring_cli load [--in PATH] [--image PATH]
 
-Migrates the guest of a guest file, and prints a report of it. With step its vCPUs run on one
-thread, always in the same order; with run each is a thread of its own.
+step and run migrate the guest of a guest file, and print a report of it. With step its vCPUs run
+on one thread, always in the same order; with run each is a thread of its own. load checks a
+migration stream, and loads the memory that it carries.
 
-  --in PATH       the guest file; without it, standard input is read
+  --in PATH       the guest file, or the stream of load; without it, standard input is read
   --stream PATH   where the migration stream goes
   --image PATH    where the memory at the destination goes
   --journal PATH  where the journal of all events goes
 
 A port without a path is discarded. For example:
-  dirtyring_cli step --in examples/counters.guest --journal counters.journal
+  dirtyring_cli step --in examples/counters.guest --stream counters.stream
+  dirtyring_cli load --in counters.stream --image counters.image
 ";
 
 /// Prints why a guest file is refused: its place, and what helps to mend it.
@@ -79,6 +85,29 @@ fn print_fault(
         ) => eprintln!(rt; "{input}:{line}: {}", text.as_str()),
         Ok(Explained { line: None, text }) => eprintln!(rt; "{input}: {}", text.as_str()),
         Err(_) => eprintln!(rt; "{input}: {why}"),
+    }
+}
+
+/// Prints why a migration stream is refused: its place, and what helps to find the damage.
+fn print_trouble(
+    rt: &impl Eprint,
+    refusal: &Refusal<'_>,
+    why: StreamFault,
+) -> Result<(), io::Error> {
+    let input = refusal.input();
+    match refusal.trouble {
+        Some(trouble) => eprintln!(rt; "{input}: {trouble}"),
+        None => eprintln!(rt; "{input}: {why}"),
+    }
+}
+
+/// Prints how many bytes the input may have.
+fn print_too_long(rt: &impl Eprint, refusal: &Refusal<'_>) -> Result<(), io::Error> {
+    let input = refusal.input();
+    if refusal.paths.is_load() {
+        eprintln!(rt; "{input}: a migration stream has at most {MOST_STREAM_BYTES} bytes")
+    } else {
+        eprintln!(rt; "{input}: a guest file has at most {MOST_GUEST_BYTES} bytes")
     }
 }
 
@@ -160,10 +189,8 @@ fn print_status(rt: &(impl Eprint + AllocGlobal), refusal: &Refusal<'_>) -> Resu
         Status::IllegalJournal { event, rule } => {
             eprintln!(rt; "{input}: event {event} of the journal breaks rule {rule}")
         }
-        Status::BadStream(why) => eprintln!(rt; "{input}: {why}"),
-        Status::TooLong => {
-            eprintln!(rt; "{input}: a guest file has at most {MOST_GUEST_BYTES} bytes")
-        }
+        Status::BadStream(why) => print_trouble(rt, refusal, why),
+        Status::TooLong => print_too_long(rt, refusal),
     }
 }
 

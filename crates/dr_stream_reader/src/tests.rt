@@ -1,4 +1,4 @@
-//! A stream of one page, whole and damaged.
+//! A stream of one page, whole and damaged. Many more are in the rows of `load`.
 
 use crate::{Image, Record, StreamReader, read_stream};
 use dr_types::StreamFault;

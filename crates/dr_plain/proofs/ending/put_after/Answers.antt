@@ -2,7 +2,7 @@ use Rattle.std.proofs.Common.{subst}
 use Rattle.dr_history.specs.Stream.{stream_of}
 use Rattle.dr_run.specs.declared.outcome.OutcomeEnd.{OutcomeEnd}
 use Rattle.dr_run.specs.Outcomes.{StandsAs, SendsAs}
-use Rattle.dr_plain.proofs.Cuts.{on_err}
+use Rattle.dr_command_io.proofs.Cuts.{on_err}
 use Rattle.dr_plain.proofs.Finishing.{cut_switched}
 use Rattle.dr_plain.proofs.ending.put_after.Goals as goal
 

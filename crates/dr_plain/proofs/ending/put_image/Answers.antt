@@ -1,6 +1,7 @@
 use Rattle.std.proofs.Common.{◌<◌, ap, ◌∙◌, subst}
 use Rattle.dr_types.specs.Pages.{page_count}
-use Rattle.dr_plain.proofs.Cuts.{image_cut, on_err}
+use Rattle.dr_command_io.proofs.Cuts.{on_err}
+use Rattle.dr_plain.proofs.Cuts.{image_cut}
 use Rattle.dr_plain.proofs.ending.put_image.Goals as goal
 
 pub returns-in_err-put-clause-cut : goal.returns-in_err-put-clause-cut

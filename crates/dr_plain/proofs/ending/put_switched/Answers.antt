@@ -7,7 +7,7 @@ use Rattle.dr_types.specs.Ports.{PutsCut}
 use Rattle.dr_history.specs.declared.event.Event.{Event}
 use Rattle.dr_history.specs.Memory.{image_of}
 use Rattle.dr_plain.specs.Puts.{texts_of}
-use Rattle.dr_plain.proofs.Cuts.{cut_after}
+use Rattle.dr_command_io.proofs.Cuts.{cut_after}
 use Rattle.dr_plain.proofs.ending.put_switched.Goals as goal
 
 pub returns-clause-cut : goal.returns-clause-cut
