@@ -62,8 +62,8 @@ quiet_more : (guest : Guest) (old past : List Event) (e : Event) → IsQuiet gue
 quiet_more guest old past e a is = quiet_then guest old past (e ∷ past) a (quiet_silent guest past e is)
 
 op_silent : (e : Event) (v : ℕ) → vcpu_of_op e ≡ Some v → IsSilent e
-op_silent (Read w i a x) v is = tt
-op_silent (Write w i a l x) v is = tt
+op_silent (Read w i space a x) v is = tt
+op_silent (Write w i space a l x) v is = tt
 op_silent (Paint w i q b) v is = tt
 op_silent (Local w i) v is = tt
 op_silent (Halted w i) v is = tt

@@ -1,5 +1,5 @@
 -- The small guests are valid.
-use Rattle.std.proofs.Common.{◌≡◌, ℕ, ◌+◌, ◌^◌, ◌*◌, ◌/◌, ◌%◌, ◌≤◌, true, List, [], ◌∷◌, length, refl, subst, sym, arith}
+use Rattle.std.proofs.Common.{◌≡◌, ℕ, ◌+◌, ◌^◌, ◌*◌, ◌/◌, ◌%◌, ◌<◌, ◌≤◌, true, List, [], ◌∷◌, length, refl, subst, sym, arith}
 use Rattle.std.specs.Prelude.{All, is_some}
 use Rattle.std.specs.Int.{is_power_of_two}
 use Rattle.std.specs.Int.Count.{ones}
@@ -44,6 +44,7 @@ slots_valid : (pages : ℕ) → 1 ≤ pages → pages ≤ 16 → AreSlots (one_s
 slots_valid pages least most = record {
   some = omega arith;
   few = omega arith;
+  spaces = one (λ row. row.space ≤ 1) _ (omega arith);
   ids = one (λ row. row.id ≤ 65535) _ (omega arith);
   some_pages = one (λ row. 1 ≤ row.pages) _ least;
   ends = one (λ row. row.base + row.pages ≤ 2 ^ 52) _ (omega (arith, most));
@@ -63,11 +64,14 @@ copies_fit pages rounds most few =
 pub small_is_valid : (settings : Settings) (slots : List SlotRow) (scripts : List (List Item)) (pages : ℕ) (script : List Item)
     → AreSettings settings → slots ≡ one_slot pages → scripts ≡ script ∷ [] → 1 ≤ pages → pages ≤ 16
     → IsScript (one_slot pages) script → length (expanded script) ≤ 200000
-    → IsValid (record { settings = settings; slots = slots; scripts = scripts })
+    → IsValid (record { version = 1; settings = settings; slots = slots; scripts = scripts })
 small_is_valid settings slots scripts pages script are its_slots its_scripts least most is short =
-    let P : List SlotRow → List (List Item) → Type 0 = λ rows texts. IsValid (record { settings = settings; slots = rows; scripts = texts }) in
+    let P : List SlotRow → List (List Item) → Type 0 = λ rows texts. IsValid (record { version = 1; settings = settings; slots = rows; scripts = texts }) in
     subst (λ (rows : List SlotRow). P rows scripts) (sym its_slots)
     (subst (λ (texts : List (List Item)). P (one_slot pages) texts) (sym its_scripts) (record {
+      version_some = omega arith;
+      version = omega arith;
+      spaces = one (λ row. row.space < 1) _ (omega arith);
       settings = are;
       slots = slots_valid pages least most;
       copies = copies_fit pages settings.rounds most are.rounds;
@@ -89,12 +93,12 @@ idle_script script e = of_literal 1 script idle e (record { items = []; ends = r
 pub idle_short : (script : List Item) → script ≡ idle → length (expanded script) ≤ 200000
 idle_short script e = short_literal script idle e (omega arith)
 
-lies : (pages address bytes : ℕ) → is_some (page_of_frame (one_slot pages) (address / 4096)) ≡ true → address % 4096 + bytes ≤ 4096 → Lies (one_slot pages) address bytes
+lies : (pages address bytes : ℕ) → is_some (page_of_frame (one_slot pages) 0 (address / 4096)) ≡ true → address % 4096 + bytes ≤ 4096 → Lies (one_slot pages) 0 address bytes
 lies pages address bytes there within = record { mapped = there; in_page = within }
 
 pub writing_script : (script : List Item) → script ≡ writing → IsScript (one_slot 1) script
 writing_script script e = of_literal 1 script writing e (record {
-  items = One (A 0) ∷ One (W 0 1 1) ∷ One (W 0 1 2) ∷ [];
+  items = One (A 0) ∷ One (W 0 0 1 1) ∷ One (W 0 0 1 2) ∷ [];
   ends = refl;
   valid = (
     omega arith,
@@ -110,7 +114,7 @@ writing_short script e = short_literal script writing e (omega arith)
 
 pub two_page_script : (script : List Item) → script ≡ two_writes → IsScript (one_slot 2) script
 two_page_script script e = of_literal 2 script two_writes e (record {
-  items = One (A 1) ∷ One (W 0 1 65) ∷ One (W 4096 2 17218) ∷ [];
+  items = One (A 1) ∷ One (W 0 0 1 65) ∷ One (W 0 4096 2 17218) ∷ [];
   ends = refl;
   valid = (
     omega arith,
@@ -126,7 +130,7 @@ two_page_short script e = short_literal script two_writes e (omega arith)
 
 pub counting_script : (script : List Item) → script ≡ counting → IsScript (one_slot 1) script
 counting_script script e = of_literal 1 script counting e (record {
-  items = One (F 0 7) ∷ One (W 9 1 1) ∷ Rep 2 (R 8 ∷ A 1 ∷ S 8 ∷ []) ∷ [];
+  items = One (F 0 0 7) ∷ One (W 0 9 1 1) ∷ Rep 2 (R 0 8 ∷ A 1 ∷ S 0 8 ∷ []) ∷ [];
   ends = refl;
   valid = (
     (omega arith, omega arith, refl),

@@ -11,6 +11,7 @@ pub enum EventRow {
     Start,
     Read { i: u32, addr: u64, value: u64 },
     Byte { i: u32, addr: u64, value: u8 },
+    ByteInSpace1 { i: u32, addr: u64, value: u8 },
     Pair { i: u32, addr: u64, value: u16 },
     Word { i: u32, addr: u64, value: u64 },
     Paint { i: u32, page: u32, byte: u8 },
@@ -30,7 +31,8 @@ pub enum EventRow {
     Switched,
 }
 
-fn written(i: u32, addr: u64, len: u32, value: u64) -> Event
+fn written(i: u32, space: u32, addr: u64, len: u32, value: u64) -> Event
+    requires space { space ≤ 1 }
     requires some { 1 ≤ len }
     requires few { len ≤ 8 }
     requires fits { value < 256 ^ len }
@@ -39,6 +41,7 @@ fn written(i: u32, addr: u64, len: u32, value: u64) -> Event
     Event::Write {
         v: 0,
         i,
+        space,
         addr,
         len,
         value,
@@ -61,12 +64,14 @@ pub fn event_of(alloc: Global, step: EventRow) -> Result<Event, Memory>
         EventRow::Read { i, addr, value } => Event::Read {
             v: 0,
             i,
+            space: 0,
             addr,
             value,
         },
-        EventRow::Byte { i, addr, value } => written(i, addr, 1, u64::from(value)),
-        EventRow::Pair { i, addr, value } => written(i, addr, 2, u64::from(value)),
-        EventRow::Word { i, addr, value } => written(i, addr, 8, value),
+        EventRow::Byte { i, addr, value } => written(i, 0, addr, 1, u64::from(value)),
+        EventRow::ByteInSpace1 { i, addr, value } => written(i, 1, addr, 1, u64::from(value)),
+        EventRow::Pair { i, addr, value } => written(i, 0, addr, 2, u64::from(value)),
+        EventRow::Word { i, addr, value } => written(i, 0, addr, 8, value),
         EventRow::Paint { i, page, byte } => Event::Paint {
             v: 0,
             i,

@@ -26,6 +26,7 @@ fn small_guest(
     ensures { IfOk result IsValid }
 {
     let row = SlotRow {
+        space: 0,
         id: 0,
         base: 0,
         pages,
@@ -33,6 +34,7 @@ fn small_guest(
     let slots = vec![in alloc; row]?;
     let scripts = vec![in alloc; Listed::from_vec(script)]?;
     Ok(Guest {
+        version: 1,
         settings: Settings {
             ring: 8,
             reserve: 2,
@@ -75,11 +77,13 @@ fn writing_script(alloc: Global) -> Result<Vec<Item>, Memory>
     Ok(vec![in alloc;
         Item::One(Op::A { n: 0 }),
         Item::One(Op::W {
+            space: 0,
             addr: 0,
             len: 1,
             value: 1
         }),
         Item::One(Op::W {
+            space: 0,
             addr: 0,
             len: 1,
             value: 2
@@ -102,11 +106,13 @@ fn two_page_script(alloc: Global) -> Result<Vec<Item>, Memory>
     Ok(vec![in alloc;
         Item::One(Op::A { n: 1 }),
         Item::One(Op::W {
+            space: 0,
             addr: 0,
             len: 1,
             value: 65
         }),
         Item::One(Op::W {
+            space: 0,
             addr: 4_096,
             len: 2,
             value: 17_218
@@ -126,11 +132,20 @@ pub fn counting_guest(alloc: Global) -> Result<Guest, Memory>
 fn counting_script(alloc: Global) -> Result<Vec<Item>, Memory>
     ensures { IfOk result (λ script. script.items ≡ counting) }
 {
-    let body = vec![in alloc; Op::R { addr: 8 }, Op::A { n: 1 }, Op::S { addr: 8 }]?;
+    let body = vec![in alloc;
+        Op::R { space: 0, addr: 8 },
+        Op::A { n: 1 },
+        Op::S { space: 0, addr: 8 },
+    ]?;
     let body = Listed::from_vec(body);
     Ok(vec![in alloc;
-        Item::One(Op::F { gfn: 0, byte: 7 }),
+        Item::One(Op::F {
+            space: 0,
+            gfn: 0,
+            byte: 7
+        }),
         Item::One(Op::W {
+            space: 0,
             addr: 9,
             len: 1,
             value: 1

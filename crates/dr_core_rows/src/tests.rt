@@ -70,6 +70,17 @@ fn reads(alloc: Global, second: u64) -> Result<Verdict, Memory> {
     judged(alloc, &guest, &[FIRST_READ, &read, COUNTED])
 }
 
+/// The first event writes a byte at address 0 of a space that the guest doesn't have.
+fn space_without_slots(alloc: Global) -> Result<Verdict, Memory> {
+    let guest = idle_guest(alloc)?;
+    let write = [EventRow::ByteInSpace1 {
+        i: 0,
+        addr: 0,
+        value: 0x41,
+    }];
+    judged(alloc, &guest, &[&write])
+}
+
 fn smallest(alloc: Global) -> Result<Verdict, Memory> {
     let guest = idle_guest(alloc)?;
     judged(alloc, &guest, &[SMALLEST])
@@ -100,6 +111,13 @@ fn reads_are_judged(rt: HostRuntime) -> Result<(), Fail> {
     for &(second, wanted) in READS {
         assert_eq!(rt; reads(alloc, second)?, wanted);
     }
+    Ok(())
+}
+
+#[test]
+fn a_page_is_looked_for_in_its_space(rt: HostRuntime) -> Result<(), Fail> {
+    let alloc = rt.alloc();
+    assert_eq!(rt; space_without_slots(alloc)?, (0, 2));
     Ok(())
 }
 

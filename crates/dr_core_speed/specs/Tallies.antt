@@ -29,11 +29,11 @@ is_reset (Reset v k) = true
 is_reset e = false
 
 abbrev pub is_read : Event → Bool
-is_read (Read v i address value) = true
+is_read (Read v i space address value) = true
 is_read e = false
 
 abbrev pub is_write : Event → Bool
-is_write (Write v i address len value) = true
+is_write (Write v i space address len value) = true
 is_write e = false
 
 abbrev pub is_throttled : Event → Bool

@@ -53,10 +53,10 @@ all_pages guest past = all_filtered (λ page. dirty page past) (is_page guest) (
 -- an operation, by the facts that its kind needs beside those of each
 pub runs_legally : (guest : Guest) (past : List Event) (e : Event) (v : ℕ) → vcpu_of_op e ≡ Some v → MayRun guest past v → write_follows guest past e ≡ true → names_exist guest past e ≡ true → is_next_op guest past e ≡ true → reads_memory guest past e ≡ true → write_is_cached guest past e ≡ true → MayFollow guest past e
 unfolding not_switched follows_script op_before_stop op_not_kicked op_has_room op_has_buffer opens_protected fills_writable pushes_next exits_with_reason deposits_pushed resets_deposited flush_has_cause starts_paced asks_in_turn answers_covered answers_dirty throttles_due copies_next stops_when_few switches_when_copied
-runs_legally guest past (Read w i a x) v is m follows names next reads cached =
+runs_legally guest past (Read w i space a x) v is m follows names next reads cached =
     let e : w ≡ v = cc in
     record { kept = rw (m.due, follows, names, m.here, next, reads, m.running, ap (λ (u : ℕ). kicked u past) e, m.unkicked, ap (λ (u : ℕ). is_full guest u past) e, m.room, ap (λ (u : ℕ). nat_lt (opens u (before_fault past) - pushes u past) (max 1 guest.settings.buffer)) e, lt-ltb _ _ m.buffer, cached) refl }
-runs_legally guest past (Write w i a l x) v is m follows names next reads cached =
+runs_legally guest past (Write w i space a l x) v is m follows names next reads cached =
     let e : w ≡ v = cc in
     record { kept = rw (m.due, follows, names, m.here, next, reads, m.running, ap (λ (u : ℕ). kicked u past) e, m.unkicked, ap (λ (u : ℕ). is_full guest u past) e, m.room, ap (λ (u : ℕ). nat_lt (opens u (before_fault past) - pushes u past) (max 1 guest.settings.buffer)) e, lt-ltb _ _ m.buffer, cached) refl }
 runs_legally guest past (Paint w i q b) v is m follows names next reads cached =

@@ -23,8 +23,8 @@ same n = eq-eqb n n refl
 no_page : (place : Option ℕ) → place ≡ None → is_some place ≡ true → ⊥
 no_page place h s = false≢true (sym (ap (λ (o : Option ℕ). is_some o) h) ∙ s)
 
-one_page : (guest : Guest) (address len : ℕ) → in_one_page guest address len ≡ true → is_some (page_of_address guest address) ≡ true
-one_page guest address len h = (and_parts _ _ h).0
+one_page : (guest : Guest) (space address len : ℕ) → in_one_page guest space address len ≡ true → is_some (page_of_address guest space address) ≡ true
+one_page guest space address len h = (and_parts _ _ h).0
 
 value_case : (guest : Guest) (past : List Event) (at : ℕ) (place : Option ℕ) → is_some place ≡ true → is_value_at guest past at place (loaded_from guest past at place) ≡ true
 value_case guest past at None h = absurd (false≢true h)
@@ -33,25 +33,25 @@ value_case guest past at (Some page) h = same (loaded (page_bytes guest page pas
 -- an operation that writes a page
 pub op_writes : (guest : Guest) (past : List Event) (v page : ℕ) (o : Op) → v < vcpu_count guest → page < page_count guest → operation guest v (ops v past) ≡ Some o → OpFits guest o → op_page guest o ≡ Some page → WritesNext guest past v page (op_event guest v past o)
 unfolding names_exist
-op_writes guest past v page (op.W address len value) hv hp is fits place = record {
+op_writes guest past v page (op.W space address len value) hv hp is fits place = record {
   is_of = refl;
   names = rw (lt-ltb v (vcpu_count guest) hv) fits;
-  next = rw (is, same (ops v past), same address, same len, same value) refl;
+  next = rw (is, same (ops v past), same space, same address, same len, same value) refl;
   writes = rw (same v, place, same page) refl;
 }
-op_writes guest past v page (op.F frame byte) hv hp is fits place = record {
+op_writes guest past v page (op.F space frame byte) hv hp is fits place = record {
   is_of = refl;
   names = rw (place, lt-ltb v (vcpu_count guest) hv, lt-ltb page (page_count guest) hp) refl;
   next = rw (is, place, same (ops v past), same page, same byte) refl;
   writes = rw (place, same v, same page) refl;
 }
-op_writes guest past v page (op.S address) hv hp is fits place = record {
+op_writes guest past v page (op.S space address) hv hp is fits place = record {
   is_of = refl;
   names = rw (lt-ltb v (vcpu_count guest) hv) fits;
-  next = rw (is, same (ops v past), same address, same (acc guest v past)) refl;
+  next = rw (is, same (ops v past), same space, same address, same (acc guest v past)) refl;
   writes = rw (same v, place, same page) refl;
 }
-op_writes guest past v page (op.R address) hv hp is fits place = cc
+op_writes guest past v page (op.R space address) hv hp is fits place = cc
 op_writes guest past v page (op.A n) hv hp is fits place = cc
 op_writes guest past v page (op.Nap us) hv hp is fits place = cc
 op_writes guest past v page op.Halt hv hp is fits place = cc
@@ -59,14 +59,14 @@ op_writes guest past v page op.Halt hv hp is fits place = cc
 -- an operation that writes none
 pub op_quiet : (guest : Guest) (past : List Event) (v : ℕ) (o : Op) → v < vcpu_count guest → may_end guest past ≡ true → MayRun guest past v → operation guest v (ops v past) ≡ Some o → OpFits guest o → op_page guest o ≡ None → MayFollow guest past (op_event guest v past o)
 unfolding names_exist reads_memory write_is_cached value_at
-op_quiet guest past v (op.W address len value) hv rests run is fits place = absurd (no_page _ place (one_page guest address len fits))
-op_quiet guest past v (op.F frame byte) hv rests run is fits place = absurd (no_page _ place fits)
-op_quiet guest past v (op.S address) hv rests run is fits place = absurd (no_page _ place (one_page guest address 8 fits))
-op_quiet guest past v (op.R address) hv rests run is fits place =
-    let e : Event = Read v (ops v past) address (value_at guest past address) in
-    runs_legally guest past (Read v (ops v past) address (value_at guest past address)) v refl run (rest_follows guest past e rests)
-    (rw (lt-ltb v (vcpu_count guest) hv) fits) (rw (is, same (ops v past), same address) refl)
-    (value_case guest past (address % 4096) (page_of_address guest address) (one_page guest address 8 fits)) refl
+op_quiet guest past v (op.W space address len value) hv rests run is fits place = absurd (no_page _ place (one_page guest space address len fits))
+op_quiet guest past v (op.F space frame byte) hv rests run is fits place = absurd (no_page _ place fits)
+op_quiet guest past v (op.S space address) hv rests run is fits place = absurd (no_page _ place (one_page guest space address 8 fits))
+op_quiet guest past v (op.R space address) hv rests run is fits place =
+    let e : Event = Read v (ops v past) space address (value_at guest past space address) in
+    runs_legally guest past (Read v (ops v past) space address (value_at guest past space address)) v refl run (rest_follows guest past e rests)
+    (rw (lt-ltb v (vcpu_count guest) hv) fits) (rw (is, same (ops v past), same space, same address) refl)
+    (value_case guest past (address % 4096) (page_of_address guest space address) (one_page guest space address 8 fits)) refl
 op_quiet guest past v (op.A n) hv rests run is fits place =
     runs_legally guest past (Local v (ops v past)) v refl run (rest_follows guest past (Local v (ops v past)) rests)
     (lt-ltb v (vcpu_count guest) hv) (rw (is, same (ops v past)) refl) refl refl
@@ -79,10 +79,10 @@ op_quiet guest past v op.Halt hv rests run is fits place =
 
 -- each operation is an event of its vCPU
 pub op_of : (guest : Guest) (past : List Event) (v : ℕ) (o : Op) → vcpu_of_op (op_event guest v past o) ≡ Some v
-op_of guest past v (op.W address len value) = refl
-op_of guest past v (op.F frame byte) = refl
-op_of guest past v (op.R address) = refl
+op_of guest past v (op.W space address len value) = refl
+op_of guest past v (op.F space frame byte) = refl
+op_of guest past v (op.R space address) = refl
 op_of guest past v (op.A n) = refl
-op_of guest past v (op.S address) = refl
+op_of guest past v (op.S space address) = refl
 op_of guest past v (op.Nap us) = refl
 op_of guest past v op.Halt = refl

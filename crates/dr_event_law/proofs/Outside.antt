@@ -50,8 +50,8 @@ inside_kicked guest [] v legal s a h = cc
 inside_kicked guest (Stopped ∷ past) v legal s a h = cc
 inside_kicked guest (Asked r ∷ past) v legal s a h = h
 inside_kicked guest (Exited w why ∷ past) v legal s a h = exit_case (w == v) (in_guest v past) (kicked v past) (inside_kicked guest past v legal.1 s a) h
-inside_kicked guest (Read w i x y ∷ past) v legal s a h = absurd (no_op guest past (Read w i x y) w legal.0 refl s)
-inside_kicked guest (Write w i x l y ∷ past) v legal s a h = absurd (no_op guest past (Write w i x l y) w legal.0 refl s)
+inside_kicked guest (Read w i space x y ∷ past) v legal s a h = absurd (no_op guest past (Read w i space x y) w legal.0 refl s)
+inside_kicked guest (Write w i space x l y ∷ past) v legal s a h = absurd (no_op guest past (Write w i space x l y) w legal.0 refl s)
 inside_kicked guest (Paint w i q b ∷ past) v legal s a h = absurd (no_op guest past (Paint w i q b) w legal.0 refl s)
 inside_kicked guest (Local w i ∷ past) v legal s a h = absurd (no_op guest past (Local w i) w legal.0 refl s)
 inside_kicked guest (Halted w i ∷ past) v legal s a h = absurd (no_op guest past (Halted w i) w legal.0 refl s)
@@ -74,8 +74,8 @@ out_at_stop guest (Synced r at pages ∷ past) v hv legal s a =
     let calm : kicked v past ≡ false = none_below (λ u. kicked u past) (vcpu_count guest) v (none_kicked guest past r at pages legal.0) hv in
     not_true (in_guest v past) (λ h. both_ways (kicked v past) (inside_kicked guest past v legal.1 s asked h) calm)
 out_at_stop guest (Exited w why ∷ past) v hv legal s a = out_case (w == v) (in_guest v past) (out_at_stop guest past v hv legal.1 s a)
-out_at_stop guest (Read w i x y ∷ past) v hv legal s a = absurd (no_op guest past (Read w i x y) w legal.0 refl s)
-out_at_stop guest (Write w i x l y ∷ past) v hv legal s a = absurd (no_op guest past (Write w i x l y) w legal.0 refl s)
+out_at_stop guest (Read w i space x y ∷ past) v hv legal s a = absurd (no_op guest past (Read w i space x y) w legal.0 refl s)
+out_at_stop guest (Write w i space x l y ∷ past) v hv legal s a = absurd (no_op guest past (Write w i space x l y) w legal.0 refl s)
 out_at_stop guest (Paint w i q b ∷ past) v hv legal s a = absurd (no_op guest past (Paint w i q b) w legal.0 refl s)
 out_at_stop guest (Local w i ∷ past) v hv legal s a = absurd (no_op guest past (Local w i) w legal.0 refl s)
 out_at_stop guest (Halted w i ∷ past) v hv legal s a = absurd (no_op guest past (Halted w i) w legal.0 refl s)

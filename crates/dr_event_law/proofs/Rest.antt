@@ -49,8 +49,8 @@ due_filled guest past v page = no_due (nat_le 1 guest.settings.quota && not (sto
 -- a settled event leaves the history at rest
 pub settles : (guest : Guest) (past : List Event) (e : Event) → IsSettled e → list_any is_switched past ≡ false → AtRest guest (e ∷ past)
 settles guest past (Start at) h here = record { rests = unowed (nat_le 1 guest.settings.quota && not (stopped past)) None refl; here = here }
-settles guest past (Read v i a x) h here = record { rests = unowed (nat_le 1 guest.settings.quota && not (stopped past)) None refl; here = here }
-settles guest past (Write v i a l x) h here = record { rests = unowed (nat_le 1 guest.settings.quota && not (stopped past)) None refl; here = here }
+settles guest past (Read v i space a x) h here = record { rests = unowed (nat_le 1 guest.settings.quota && not (stopped past)) None refl; here = here }
+settles guest past (Write v i space a l x) h here = record { rests = unowed (nat_le 1 guest.settings.quota && not (stopped past)) None refl; here = here }
 settles guest past (Paint v i q b) h here = record { rests = unowed (nat_le 1 guest.settings.quota && not (stopped past)) None refl; here = here }
 settles guest past (Local v i) h here = record { rests = unowed (nat_le 1 guest.settings.quota && not (stopped past)) None refl; here = here }
 settles guest past (Halted v i) h here = record { rests = unowed (nat_le 1 guest.settings.quota && not (stopped past)) None refl; here = here }

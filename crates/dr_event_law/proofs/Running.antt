@@ -47,10 +47,10 @@ halted_case false had n m h f = f h
 -- a vCPU that has not halted has an operation to go
 pub goes_on : (guest : Guest) (past : List Event) (v : ℕ) → Ends guest → 0 < script_length guest v → IsLegalSoFar guest past → halted v past ≡ false → ops v past < script_length guest v
 goes_on guest [] v ends some legal h = some
-goes_on guest (Read w i address value ∷ past) v ends some legal h =
-    no_last guest past w v i (λ o. is_load o address) ends refl (op_next guest past (Read w i address value) legal.0) (goes_on guest past v ends some legal.1 h)
-goes_on guest (Write w i address len value ∷ past) v ends some legal h =
-    no_last guest past w v i (λ o. is_store o (acc guest w past) address len value) ends refl (op_next guest past (Write w i address len value) legal.0) (goes_on guest past v ends some legal.1 h)
+goes_on guest (Read w i space address value ∷ past) v ends some legal h =
+    no_last guest past w v i (λ o. is_load o space address) ends refl (op_next guest past (Read w i space address value) legal.0) (goes_on guest past v ends some legal.1 h)
+goes_on guest (Write w i space address len value ∷ past) v ends some legal h =
+    no_last guest past w v i (λ o. is_store o (acc guest w past) space address len value) ends refl (op_next guest past (Write w i space address len value) legal.0) (goes_on guest past v ends some legal.1 h)
 goes_on guest (Paint w i page byte ∷ past) v ends some legal h =
     no_last guest past w v i (λ o. is_fill guest o page byte) ends refl (op_next guest past (Paint w i page byte) legal.0) (goes_on guest past v ends some legal.1 h)
 goes_on guest (Local w i ∷ past) v ends some legal h =

@@ -21,11 +21,11 @@ cached_place v page past (Some q) n = ap (λ (p : ℕ). cached v p past) (eqb-tr
 -- a write, by what holds at its place
 write_legal : (guest : Guest) (past : List Event) (v page : ℕ) (e : Event) → MayRun guest past v → write_follows guest past e ≡ true → WritesNext guest past v page e → (not (started past) || cached v page past) ≡ true → MayFollow guest past e
 unfolding reads_memory write_is_cached
-write_legal guest past v page (Write w i address len value) run follows m c =
-    let parts = and_parts (w == v) (is_number page (page_of_address guest address)) m.writes in
-    let place : is_cached_for w past (page_of_address guest address) ≡ cached v page past =
-    ap (λ (u : ℕ). is_cached_for u past (page_of_address guest address)) (eqb-true w v parts.0) ∙ cached_place v page past (page_of_address guest address) parts.1 in
-    runs_legally guest past (Write w i address len value) v m.is_of run follows m.names m.next refl (ap (λ b. not (started past) || b) place ∙ c)
+write_legal guest past v page (Write w i space address len value) run follows m c =
+    let parts = and_parts (w == v) (is_number page (page_of_address guest space address)) m.writes in
+    let place : is_cached_for w past (page_of_address guest space address) ≡ cached v page past =
+    ap (λ (u : ℕ). is_cached_for u past (page_of_address guest space address)) (eqb-true w v parts.0) ∙ cached_place v page past (page_of_address guest space address) parts.1 in
+    runs_legally guest past (Write w i space address len value) v m.is_of run follows m.names m.next refl (ap (λ b. not (started past) || b) place ∙ c)
 write_legal guest past v page (Paint w i q byte) run follows m c =
     let parts = and_parts (w == v) (q == page) m.writes in
     let place : cached w q past ≡ cached v page past = ap (λ (u : ℕ). cached u q past) (eqb-true w v parts.0) ∙ ap (λ (p : ℕ). cached v p past) (eqb-true q page parts.1) in
@@ -46,9 +46,9 @@ granted s v page rest = ap (λ b. not s || ((b && page == page) || rest)) (eq-eq
 -- a write after its Filled
 pub writes_filled : (guest : Guest) (past : List Event) (v page : ℕ) (e : Event) → MayRun guest past v → unpushed v past < max 1 guest.settings.buffer → WritesNext guest past v page e → MayFollow guest (Filled v page ∷ past) e
 unfolding write_follows names_exist
-writes_filled guest past v page (Write w i address len value) run few m =
+writes_filled guest past v page (Write w i space address len value) run few m =
     let r : MayRun guest (Filled v page ∷ past) v = record { vcpu = run.vcpu; here = run.here; running = run.running; unkicked = run.unkicked; room = run.room; buffer = few; due = due_filled guest past v page } in
-    write_legal guest (Filled v page ∷ past) v page (Write w i address len value) r m.writes (record { is_of = m.is_of; names = m.names; next = m.next; writes = m.writes }) (granted (started past) v page (cached v page past))
+    write_legal guest (Filled v page ∷ past) v page (Write w i space address len value) r m.writes (record { is_of = m.is_of; names = m.names; next = m.next; writes = m.writes }) (granted (started past) v page (cached v page past))
 writes_filled guest past v page (Paint w i q byte) run few m =
     let r : MayRun guest (Filled v page ∷ past) v = record { vcpu = run.vcpu; here = run.here; running = run.running; unkicked = run.unkicked; room = run.room; buffer = few; due = due_filled guest past v page } in
     write_legal guest (Filled v page ∷ past) v page (Paint w i q byte) r m.writes (record { is_of = m.is_of; names = m.names; next = m.next; writes = m.writes }) (granted (started past) v page (cached v page past))
@@ -57,9 +57,9 @@ writes_filled guest past v page e run few m = absurd (false≢true m.writes)
 -- a write after its Opened
 pub writes_opened : (guest : Guest) (past : List Event) (v k page : ℕ) (e : Event) → MayRun guest past v → unpushed v past < max 1 guest.settings.buffer → WritesNext guest past v page e → MayFollow guest (Opened v k page ∷ past) e
 unfolding write_follows names_exist
-writes_opened guest past v k page (Write w i address len value) run few m =
+writes_opened guest past v k page (Write w i space address len value) run few m =
     let r : MayRun guest (Opened v k page ∷ past) v = record { vcpu = run.vcpu; here = run.here; running = run.running; unkicked = run.unkicked; room = run.room; buffer = few; due = due_opened guest past v k page } in
-    write_legal guest (Opened v k page ∷ past) v page (Write w i address len value) r m.writes (record { is_of = m.is_of; names = m.names; next = m.next; writes = m.writes }) (granted (started past) v page (cached v page past))
+    write_legal guest (Opened v k page ∷ past) v page (Write w i space address len value) r m.writes (record { is_of = m.is_of; names = m.names; next = m.next; writes = m.writes }) (granted (started past) v page (cached v page past))
 writes_opened guest past v k page (Paint w i q byte) run few m =
     let r : MayRun guest (Opened v k page ∷ past) v = record { vcpu = run.vcpu; here = run.here; running = run.running; unkicked = run.unkicked; room = run.room; buffer = few; due = due_opened guest past v k page } in
     write_legal guest (Opened v k page ∷ past) v page (Paint w i q byte) r m.writes (record { is_of = m.is_of; names = m.names; next = m.next; writes = m.writes }) (granted (started past) v page (cached v page past))

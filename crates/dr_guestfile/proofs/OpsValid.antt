@@ -13,30 +13,30 @@ use Rattle.dr_guestfile.specs.declared.keyword.Keyword.{Keyword}
 use Rattle.dr_guestfile.specs.declared.keyword.Keyword.TheVariants as keyword
 use Rattle.dr_guestfile_lines.specs.Numbers.{hex_number, hex_byte_of}
 use Rattle.dr_guestfile.specs.OpLines.{greatest, placed, write_of, fill_of, read_of, add_of, store_of, nap_of, halt_of, op_of, going_on, op_of_body}
-use Rattle.dr_guestfile_lines.specs.Reading.{check, number_of}
+use Rattle.dr_guestfile_lines.specs.Reading.{check, number_of, spaced_number_of}
 use Rattle.dr_guestfile_lines.specs.Words.{one_word, two_words}
 use Rattle.dr_guestfile.proofs.SectionState.{IsOpOrHalt}
 use Rattle.dr_guestfile_lines.proofs.Numerals.{hex_number-byte, hex_number-fits}
 use Rattle.dr_guestfile.proofs.SectionParts.{or_halt}
-use Rattle.dr_guestfile.proofs.ReadingParts.{steps, passed, given, number_range}
+use Rattle.dr_guestfile.proofs.ReadingParts.{steps, passed, given, number_range, spaced_range}
 
-placed_valid : (slots : List SlotRow) (address bytes line : ℕ) (u : Unit {0}) → placed slots address bytes line ≡ Ok u → Lies slots address bytes
-placed_valid slots address bytes line u e =
-    let mapped = steps (check (is_some (page_of_frame slots (address / 4096))) (fault.Unmapped line)) _ _ e in
+placed_valid : (slots : List SlotRow) (space address bytes line : ℕ) (u : Unit {0}) → placed slots space address bytes line ≡ Ok u → Lies slots space address bytes
+placed_valid slots space address bytes line u e =
+    let mapped = steps (check (is_some (page_of_frame slots space (address / 4096))) (fault.Unmapped line)) _ _ e in
     record { mapped = passed _ _ _ mapped.is; in_page = leb-true _ _ (passed _ _ u mapped.next) }
 
-write_valid : (slots : List SlotRow) (arguments : List (List ℕ)) (line : ℕ) (op : Op) → write_of slots arguments line ≡ Ok op → IsOp slots op
+write_valid : (version : ℕ) (slots : List SlotRow) (arguments : List (List ℕ)) (line : ℕ) (op : Op) → write_of version slots arguments line ≡ Ok op → IsOp slots op
 unfolding write_of
-write_valid slots arguments line op e =
+write_valid version slots arguments line op e =
     let words = steps (ok_or (two_words arguments) (fault.Line line)) _ _ e in
-    let address = steps (number_of 0 greatest words.value.0 line) _ _ words.next in
+    let address = steps (spaced_number_of version greatest words.value.0 line) _ _ words.next in
     let bytes = steps (ok_or (hex_number 8 words.value.1) (fault.Number line)) _ _ address.next in
-    let there = steps (placed slots address.value bytes.value.0 line) _ _ bytes.next in
-    let made : Op = W address.value bytes.value.0 bytes.value.1 in
+    let there = steps (placed slots address.value.0 address.value.1 bytes.value.0 line) _ _ bytes.next in
+    let made : Op = W address.value.0 address.value.1 bytes.value.0 bytes.value.1 in
     let same : made ≡ op = cc there.next in
-    let range = number_range 0 greatest words.value.0 line address.value address.is in
+    let range = spaced_range version greatest words.value.0 line address.value address.is in
     let fits = hex_number-fits 8 words.value.1 (Some bytes.value) (sym (given _ _ bytes.value bytes.is)) in
-    subst (IsOp slots) same (omega (arith, range.1), fits.0, fits.1, fits.2, placed_valid slots address.value bytes.value.0 line there.value there.is)
+    subst (IsOp slots) same (omega (arith, range.most), fits.0, fits.1, fits.2, placed_valid slots address.value.0 address.value.1 bytes.value.0 line there.value there.is)
 
 byte_at : (found : Option (ℕ × ℕ)) (word : List ℕ) (byte : ℕ) → found ≡ hex_number 1 word → option_map (λ (number : ℕ × ℕ). number.1) found ≡ Some byte → byte < 256
 byte_at None word byte is e = absurd cc
@@ -45,39 +45,39 @@ byte_at (Some number) word byte is e =
     let below : number.1 < 256 = hex_number-byte 1 word (Some number) is (omega (arith, (hex_number-fits 1 word (Some number) is).1)) in
     omega (arith, same, below)
 
-fill_valid : (slots : List SlotRow) (arguments : List (List ℕ)) (line : ℕ) (op : Op) → fill_of slots arguments line ≡ Ok op → IsOp slots op
+fill_valid : (version : ℕ) (slots : List SlotRow) (arguments : List (List ℕ)) (line : ℕ) (op : Op) → fill_of version slots arguments line ≡ Ok op → IsOp slots op
 unfolding fill_of
-fill_valid slots arguments line op e =
+fill_valid version slots arguments line op e =
     let words = steps (ok_or (two_words arguments) (fault.Line line)) _ _ e in
-    let frame = steps (number_of 0 greatest words.value.0 line) _ _ words.next in
+    let frame = steps (spaced_number_of version greatest words.value.0 line) _ _ words.next in
     let byte = steps (ok_or (hex_byte_of words.value.1) (fault.Number line)) _ _ frame.next in
-    let mapped = steps (check (is_some (page_of_frame slots frame.value)) (fault.Unmapped line)) _ _ byte.next in
-    let made : Op = F frame.value byte.value in
+    let mapped = steps (check (is_some (page_of_frame slots frame.value.0 frame.value.1)) (fault.Unmapped line)) _ _ byte.next in
+    let made : Op = F frame.value.0 frame.value.1 byte.value in
     let same : made ≡ op = cc mapped.next in
-    let range = number_range 0 greatest words.value.0 line frame.value frame.is in
-    subst (IsOp slots) same (omega (arith, range.1), byte_at (hex_number 1 words.value.1) words.value.1 byte.value refl (given _ _ byte.value byte.is), passed _ _ _ mapped.is)
+    let range = spaced_range version greatest words.value.0 line frame.value frame.is in
+    subst (IsOp slots) same (omega (arith, range.most), byte_at (hex_number 1 words.value.1) words.value.1 byte.value refl (given _ _ byte.value byte.is), passed _ _ _ mapped.is)
 
-read_valid : (slots : List SlotRow) (arguments : List (List ℕ)) (line : ℕ) (op : Op) → read_of slots arguments line ≡ Ok op → IsOp slots op
+read_valid : (version : ℕ) (slots : List SlotRow) (arguments : List (List ℕ)) (line : ℕ) (op : Op) → read_of version slots arguments line ≡ Ok op → IsOp slots op
 unfolding read_of
-read_valid slots arguments line op e =
+read_valid version slots arguments line op e =
     let word = steps (ok_or (one_word arguments) (fault.Line line)) _ _ e in
-    let address = steps (number_of 0 greatest word.value line) _ _ word.next in
-    let there = steps (placed slots address.value 8 line) _ _ address.next in
-    let made : Op = R address.value in
+    let address = steps (spaced_number_of version greatest word.value line) _ _ word.next in
+    let there = steps (placed slots address.value.0 address.value.1 8 line) _ _ address.next in
+    let made : Op = R address.value.0 address.value.1 in
     let same : made ≡ op = cc there.next in
-    let range = number_range 0 greatest word.value line address.value address.is in
-    subst (IsOp slots) same (omega (arith, range.1), placed_valid slots address.value 8 line there.value there.is)
+    let range = spaced_range version greatest word.value line address.value address.is in
+    subst (IsOp slots) same (omega (arith, range.most), placed_valid slots address.value.0 address.value.1 8 line there.value there.is)
 
-store_valid : (slots : List SlotRow) (arguments : List (List ℕ)) (line : ℕ) (op : Op) → store_of slots arguments line ≡ Ok op → IsOp slots op
+store_valid : (version : ℕ) (slots : List SlotRow) (arguments : List (List ℕ)) (line : ℕ) (op : Op) → store_of version slots arguments line ≡ Ok op → IsOp slots op
 unfolding store_of
-store_valid slots arguments line op e =
+store_valid version slots arguments line op e =
     let word = steps (ok_or (one_word arguments) (fault.Line line)) _ _ e in
-    let address = steps (number_of 0 greatest word.value line) _ _ word.next in
-    let there = steps (placed slots address.value 8 line) _ _ address.next in
-    let made : Op = S address.value in
+    let address = steps (spaced_number_of version greatest word.value line) _ _ word.next in
+    let there = steps (placed slots address.value.0 address.value.1 8 line) _ _ address.next in
+    let made : Op = S address.value.0 address.value.1 in
     let same : made ≡ op = cc there.next in
-    let range = number_range 0 greatest word.value line address.value address.is in
-    subst (IsOp slots) same (omega (arith, range.1), placed_valid slots address.value 8 line there.value there.is)
+    let range = spaced_range version greatest word.value line address.value address.is in
+    subst (IsOp slots) same (omega (arith, range.most), placed_valid slots address.value.0 address.value.1 8 line there.value there.is)
 
 add_valid : (slots : List SlotRow) (arguments : List (List ℕ)) (line : ℕ) (op : Op) → add_of arguments line ≡ Ok op → IsOp slots op
 unfolding add_of
@@ -104,23 +104,23 @@ unfolding halt_of
 halt_valid slots [] line op e = let same : Halt ≡ op = cc in subst (IsOpOrHalt slots) same tt
 halt_valid slots (word ∷ words) line op e = absurd cc
 
-pub op_valid : (slots : List SlotRow) (first : Option Keyword) (arguments : List (List ℕ)) (line : ℕ) (op : Op) → op_of slots first arguments line ≡ Ok op → IsOpOrHalt slots op
+pub op_valid : (version : ℕ) (slots : List SlotRow) (first : Option Keyword) (arguments : List (List ℕ)) (line : ℕ) (op : Op) → op_of version slots first arguments line ≡ Ok op → IsOpOrHalt slots op
 unfolding op_of
-op_valid slots (Some keyword.Write) arguments line op e = or_halt slots op (write_valid slots arguments line op e)
-op_valid slots (Some keyword.Fill) arguments line op e = or_halt slots op (fill_valid slots arguments line op e)
-op_valid slots (Some keyword.Read) arguments line op e = or_halt slots op (read_valid slots arguments line op e)
-op_valid slots (Some keyword.Add) arguments line op e = or_halt slots op (add_valid slots arguments line op e)
-op_valid slots (Some keyword.Store) arguments line op e = or_halt slots op (store_valid slots arguments line op e)
-op_valid slots (Some keyword.Nap) arguments line op e = or_halt slots op (nap_valid slots arguments line op e)
-op_valid slots (Some keyword.Halt) arguments line op e = halt_valid slots arguments line op e
-op_valid slots first arguments line op e = absurd cc
+op_valid version slots (Some keyword.Write) arguments line op e = or_halt slots op (write_valid version slots arguments line op e)
+op_valid version slots (Some keyword.Fill) arguments line op e = or_halt slots op (fill_valid version slots arguments line op e)
+op_valid version slots (Some keyword.Read) arguments line op e = or_halt slots op (read_valid version slots arguments line op e)
+op_valid version slots (Some keyword.Add) arguments line op e = or_halt slots op (add_valid slots arguments line op e)
+op_valid version slots (Some keyword.Store) arguments line op e = or_halt slots op (store_valid version slots arguments line op e)
+op_valid version slots (Some keyword.Nap) arguments line op e = or_halt slots op (nap_valid slots arguments line op e)
+op_valid version slots (Some keyword.Halt) arguments line op e = halt_valid slots arguments line op e
+op_valid version slots first arguments line op e = absurd cc
 
 step_valid : (slots : List SlotRow) (line : ℕ) (op step : Op) → IsOpOrHalt slots op → going_on line op ≡ Ok step → IsOp slots step
 step_valid slots line Halt step is e = absurd cc
 step_valid slots line op step is e = let same : op ≡ step = cc in subst (IsOp slots) same is
 
-pub body_op_valid : (slots : List SlotRow) (first : Option Keyword) (arguments : List (List ℕ)) (line : ℕ) (op : Op) → op_of_body slots first arguments line ≡ Ok op → IsOp slots op
+pub body_op_valid : (version : ℕ) (slots : List SlotRow) (first : Option Keyword) (arguments : List (List ℕ)) (line : ℕ) (op : Op) → op_of_body version slots first arguments line ≡ Ok op → IsOp slots op
 unfolding op_of_body
-body_op_valid slots first arguments line op e =
-    let found = steps (op_of slots first arguments line) _ _ e in
-    step_valid slots line found.value op (op_valid slots first arguments line found.value found.is) found.next
+body_op_valid version slots first arguments line op e =
+    let found = steps (op_of version slots first arguments line) _ _ e in
+    step_valid slots line found.value op (op_valid version slots first arguments line found.value found.is) found.next

@@ -59,19 +59,19 @@ begin_valid slots done (Some keyword.Vcpu) [] line next are e =
     })
 begin_valid slots done first arguments line next are e = absurd cc
 
-op_line_valid : (slots : List SlotRow) (done : Done) (script : List Item) (first : Option Keyword) (arguments : List (List ℕ)) (line : ℕ) (next : Sections) → AreSections slots (at done (place.Script script))
-    → (op_of slots first arguments line >>= λ op. counted done.ops 1 line >>= λ ops. Ok (after_op (record { scripts = done.scripts; ops = ops }) script op)) ≡ Ok next → AreSections slots next
-op_line_valid slots done script first arguments line next are e =
-    let op = steps (op_of slots first arguments line) _ _ e in
+op_line_valid : (version : ℕ) (slots : List SlotRow) (done : Done) (script : List Item) (first : Option Keyword) (arguments : List (List ℕ)) (line : ℕ) (next : Sections) → AreSections slots (at done (place.Script script))
+    → (op_of version slots first arguments line >>= λ op. counted done.ops 1 line >>= λ ops. Ok (after_op (record { scripts = done.scripts; ops = ops }) script op)) ≡ Ok next → AreSections slots next
+op_line_valid version slots done script first arguments line next are e =
+    let op = steps (op_of version slots first arguments line) _ _ e in
     let ops = steps (counted done.ops 1 line) _ _ op.next in
     let sum = sum_valid done.ops 1 line ops.value ops.is in
     let same : after_op (with_ops done ops.value) script op.value ≡ next = cc ops.next in
-    subst (AreSections slots) same (after_op_valid slots done ops.value script op.value are sum.is sum.few (op_valid slots first arguments line op.value op.is))
+    subst (AreSections slots) same (after_op_valid slots done ops.value script op.value are sum.is sum.few (op_valid version slots first arguments line op.value op.is))
 
-script_valid : (slots : List SlotRow) (done : Done) (script : List Item) (first : Option Keyword) (arguments : List (List ℕ)) (line : ℕ) (next : Sections) → AreSections slots (at done (place.Script script))
-    → line_of_script slots done script first arguments line ≡ Ok next → AreSections slots next
+script_valid : (version : ℕ) (slots : List SlotRow) (done : Done) (script : List Item) (first : Option Keyword) (arguments : List (List ℕ)) (line : ℕ) (next : Sections) → AreSections slots (at done (place.Script script))
+    → line_of_script version slots done script first arguments line ≡ Ok next → AreSections slots next
 unfolding line_of_script
-script_valid slots done script (Some keyword.Rep) arguments line next are e =
+script_valid version slots done script (Some keyword.Rep) arguments line next are e =
     let word = steps (ok_or (one_word arguments) (fault.Line line)) _ _ e in
     let times = steps (number_of 1 200000 word.value line) _ _ word.next in
     let range = number_range 1 200000 word.value line times.value times.is in
@@ -80,19 +80,19 @@ script_valid slots done script (Some keyword.Rep) arguments line next are e =
       done = record { scripts = are.done.scripts; vcpus = are.done.vcpus; counted = are.done.counted; few = are.done.few };
       place = (are.place.0, record { script = are.place.1; some = range.0; few = range.1; body = tt });
     })
-script_valid slots done script first arguments line next are e = op_line_valid slots done script first arguments line next are e
+script_valid version slots done script first arguments line next are e = op_line_valid version slots done script first arguments line next are e
 
-body_line_valid : (slots : List SlotRow) (done : Done) (part : Repeat) (first : Option Keyword) (arguments : List (List ℕ)) (line : ℕ) (next : Sections) → AreSections slots (at done (place.Repeat part))
-    → (op_of_body slots first arguments line >>= λ op. Ok (at done (place.Repeat (record part { body = part.body ++ op ∷ [] })))) ≡ Ok next → AreSections slots next
-body_line_valid slots done part first arguments line next are e =
-    let op = steps (op_of_body slots first arguments line) _ _ e in
+body_line_valid : (version : ℕ) (slots : List SlotRow) (done : Done) (part : Repeat) (first : Option Keyword) (arguments : List (List ℕ)) (line : ℕ) (next : Sections) → AreSections slots (at done (place.Repeat part))
+    → (op_of_body version slots first arguments line >>= λ op. Ok (at done (place.Repeat (record part { body = part.body ++ op ∷ [] })))) ≡ Ok next → AreSections slots next
+body_line_valid version slots done part first arguments line next are e =
+    let op = steps (op_of_body version slots first arguments line) _ _ e in
     let same : at done (place.Repeat (record part { body = part.body ++ op.value ∷ [] })) ≡ next = cc op.next in
-    subst (AreSections slots) same (body_valid slots done part op.value are (body_op_valid slots first arguments line op.value op.is))
+    subst (AreSections slots) same (body_valid slots done part op.value are (body_op_valid version slots first arguments line op.value op.is))
 
-repeat_valid : (slots : List SlotRow) (done : Done) (part : Repeat) (first : Option Keyword) (arguments : List (List ℕ)) (line : ℕ) (next : Sections) → AreSections slots (at done (place.Repeat part))
-    → line_of_repeat slots done part first arguments line ≡ Ok next → AreSections slots next
+repeat_valid : (version : ℕ) (slots : List SlotRow) (done : Done) (part : Repeat) (first : Option Keyword) (arguments : List (List ℕ)) (line : ℕ) (next : Sections) → AreSections slots (at done (place.Repeat part))
+    → line_of_repeat version slots done part first arguments line ≡ Ok next → AreSections slots next
 unfolding line_of_repeat end_of_repeat
-repeat_valid slots done part (Some keyword.End) arguments line next are e =
+repeat_valid version slots done part (Some keyword.End) arguments line next are e =
     let alone = steps (check (is_empty arguments) (fault.Line line)) _ _ e in
     let some = steps (check (nat_lt 0 (length part.body)) (fault.Line line)) _ _ alone.next in
     let ops = steps (counted done.ops (part.times * length part.body) line) _ _ some.next in
@@ -100,13 +100,13 @@ repeat_valid slots done part (Some keyword.End) arguments line next are e =
     let same : at (with_ops done ops.value) (place.Script (part.script ++ Rep part.times part.body ∷ [])) ≡ next = cc ops.next in
     let one : 0 < length part.body = ltb-true _ _ (passed _ _ _ some.is) in
     subst (AreSections slots) same (end_valid slots done ops.value part are sum.is sum.few (omega (arith, one)))
-repeat_valid slots done part first arguments line next are e = body_line_valid slots done part first arguments line next are e
+repeat_valid version slots done part first arguments line next are e = body_line_valid version slots done part first arguments line next are e
 
-place_valid : (slots : List SlotRow) (done : Done) (place : Place) (first : Option Keyword) (arguments : List (List ℕ)) (line : ℕ) (next : Sections) → AreSections slots (at done place)
-    → line_at_place slots done place first arguments line ≡ Ok next → AreSections slots next
-place_valid slots done place.Between first arguments line next are e = begin_valid slots done first arguments line next are e
-place_valid slots done (place.Script script) first arguments line next are e = script_valid slots done script first arguments line next are e
-place_valid slots done (place.Repeat part) first arguments line next are e = repeat_valid slots done part first arguments line next are e
+place_valid : (version : ℕ) (slots : List SlotRow) (done : Done) (place : Place) (first : Option Keyword) (arguments : List (List ℕ)) (line : ℕ) (next : Sections) → AreSections slots (at done place)
+    → line_at_place version slots done place first arguments line ≡ Ok next → AreSections slots next
+place_valid version slots done place.Between first arguments line next are e = begin_valid slots done first arguments line next are e
+place_valid version slots done (place.Script script) first arguments line next are e = script_valid version slots done script first arguments line next are e
+place_valid version slots done (place.Repeat part) first arguments line next are e = repeat_valid version slots done part first arguments line next are e
 
 -- the scripts of a guest
 pub record AreRead (slots : List SlotRow) (all : List (List Item)) : Type 0 where
@@ -124,13 +124,13 @@ end_of_input slots (script ∷ scripts) ops place.Between missing all are e =
 end_of_input slots scripts ops (place.Script script) missing all are e = absurd cc
 end_of_input slots scripts ops (place.Repeat part) missing all are e = absurd cc
 
-pub sections_valid : (slots : List SlotRow) (sections : Sections) (lines : List Line) (past : ℕ) (scripts : List (List Item)) → AreSections slots sections → sections_from slots sections lines past ≡ Ok scripts → AreRead slots scripts
+pub sections_valid : (version : ℕ) (slots : List SlotRow) (sections : Sections) (lines : List Line) (past : ℕ) (scripts : List (List Item)) → AreSections slots sections → sections_from version slots sections lines past ≡ Ok scripts → AreRead slots scripts
 unfolding sections_from
-sections_valid slots sections [] past scripts are e = end_of_input slots sections.done.scripts sections.done.ops sections.place (fault.Line past) scripts are e
-sections_valid slots sections (line ∷ lines) past scripts are e =
-    let next = steps (section_line slots sections line) _ _ e in
-    sections_valid slots next.value lines past scripts
-    (place_valid slots sections.done sections.place (first_keyword line.words) (words_after line.words) line.number next.value are next.is) next.next
+sections_valid version slots sections [] past scripts are e = end_of_input slots sections.done.scripts sections.done.ops sections.place (fault.Line past) scripts are e
+sections_valid version slots sections (line ∷ lines) past scripts are e =
+    let next = steps (section_line version slots sections line) _ _ e in
+    sections_valid version slots next.value lines past scripts
+    (place_valid version slots sections.done sections.place (first_keyword line.words) (words_after line.words) line.number next.value are next.is) next.next
 
 pub none_read : (slots : List SlotRow) → AreSections slots no_sections
 none_read slots = record { done = record { scripts = tt; vcpus = omega arith; counted = omega arith; few = omega arith }; place = tt }

@@ -53,17 +53,17 @@ after_op done script op = record { done = done; place = place.Script (script ++ 
 
 -- a line of a script: `rep` begins a repeated part, and others are ops
 unfoldable pub line_of_script :
-    List SlotRow → Done → List Item → Option Keyword → List (List ℕ) → ℕ
+    ℕ → List SlotRow → Done → List Item → Option Keyword → List (List ℕ) → ℕ
     → Result Sections FileFault
-line_of_script slots done script (Some keyword.Rep) arguments line = do
+line_of_script version slots done script (Some keyword.Rep) arguments line = do
   word ← ok_or (one_word arguments) (fault.Line line)
   times ← number_of 1 200000 word line
   Ok (record {
     done = done;
     place = place.Repeat (record { script = script; times = times; body = [] });
   })
-line_of_script slots done script first arguments line = do
-  op ← op_of slots first arguments line
+line_of_script version slots done script first arguments line = do
+  op ← op_of version slots first arguments line
   ops ← counted done.ops 1 line
   Ok (after_op (record { scripts = done.scripts; ops = ops }) script op)
 
@@ -82,28 +82,29 @@ end_of_repeat done part arguments line = do
 
 -- a line of a repeated part: `end` ends it, and others are ops
 unfoldable pub line_of_repeat :
-    List SlotRow → Done → Repeat → Option Keyword → List (List ℕ) → ℕ
+    ℕ → List SlotRow → Done → Repeat → Option Keyword → List (List ℕ) → ℕ
     → Result Sections FileFault
-line_of_repeat slots done part (Some keyword.End) arguments line =
+line_of_repeat version slots done part (Some keyword.End) arguments line =
     end_of_repeat done part arguments line
-line_of_repeat slots done part first arguments line = do
-  op ← op_of_body slots first arguments line
+line_of_repeat version slots done part first arguments line = do
+  op ← op_of_body version slots first arguments line
   Ok (record { done = done; place = place.Repeat (record part { body = part.body ++ op ∷ [] }) })
 
 -- a line at its place
 abbrev pub line_at_place :
-    List SlotRow → Done → Place → Option Keyword → List (List ℕ) → ℕ
+    ℕ → List SlotRow → Done → Place → Option Keyword → List (List ℕ) → ℕ
     → Result Sections FileFault
-line_at_place slots done place.Between first arguments line = line_between done first arguments line
-line_at_place slots done (place.Script script) first arguments line =
-    line_of_script slots done script first arguments line
-line_at_place slots done (place.Repeat part) first arguments line =
-    line_of_repeat slots done part first arguments line
+line_at_place version slots done place.Between first arguments line =
+    line_between done first arguments line
+line_at_place version slots done (place.Script script) first arguments line =
+    line_of_script version slots done script first arguments line
+line_at_place version slots done (place.Repeat part) first arguments line =
+    line_of_repeat version slots done part first arguments line
 
 -- the sections after one more line
-abbrev pub section_line : List SlotRow → Sections → Line → Result Sections FileFault
-section_line slots sections line =
-    line_at_place slots sections.done sections.place
+abbrev pub section_line : ℕ → List SlotRow → Sections → Line → Result Sections FileFault
+section_line version slots sections line =
+    line_at_place version slots sections.done sections.place
     (first_keyword line.words) (words_after line.words) line.number
 
 -- the scripts, where the last section has its `halt` and there is one, or else this fault
@@ -114,17 +115,17 @@ finished (place.Script script) scripts missing = Err missing
 finished (place.Repeat part) scripts missing = Err missing
 
 -- what these lines make of the sections so far
-unfoldable pub sections_from : List SlotRow → Sections → List Line → ℕ
+unfoldable pub sections_from : ℕ → List SlotRow → Sections → List Line → ℕ
     → Result (List (List Item)) FileFault
-sections_from slots sections [] past =
+sections_from version slots sections [] past =
     finished sections.place sections.done.scripts (fault.Line past)
-sections_from slots sections (line ∷ lines) past =
-    section_line slots sections line >>= λ next. sections_from slots next lines past
+sections_from version slots sections (line ∷ lines) past =
+    section_line version slots sections line >>= λ next. sections_from version slots next lines past
 
 -- nothing is read of the sections
 abbrev pub no_sections : Sections
 no_sections = record { done = record { scripts = []; ops = 0 }; place = place.Between }
 
 -- one section or more, up to the end
-abbrev pub scripts_in : List SlotRow → Input → Result (List (List Item)) FileFault
-scripts_in slots input = sections_from slots no_sections input.lines input.past
+abbrev pub scripts_in : ℕ → List SlotRow → Input → Result (List (List Item)) FileFault
+scripts_in version slots input = sections_from version slots no_sections input.lines input.past

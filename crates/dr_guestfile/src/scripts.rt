@@ -6,9 +6,8 @@ ghost use Rattle.dr_guestfile.specs.ScriptLines.{section_line as next_sections, 
 ghost use Rattle.dr_guestfile.specs.ScriptLines.{scripts_in};
 
 use crate::keyword::{Keyword, first_keyword};
-use crate::ops::{body_op, op};
+use crate::ops::{Places, body_op, op};
 use dr_guestfile_lines::{Line, Lines, Words, number};
-use dr_slots::Slots;
 use dr_types::limits::{MOST_OPS, MOST_VCPUS};
 use dr_types::{FileFault, Item, Op, OpList, Script, ScriptList, What};
 use std::alloc::Global;
@@ -114,7 +113,7 @@ fn after_op(mut done: Done, mut script: Script, op: Op) -> Result<Sections, File
 #[tactic(auto, unfolding(crate::specs::ScriptLines::line_of_script))]
 fn script_line(
     alloc: Global,
-    slots: &Slots,
+    places: &Places<'_>,
     done: Done,
     script: Script,
     first: Option<Keyword>,
@@ -122,7 +121,8 @@ fn script_line(
     no: u64,
 ) -> Result<Sections, FileFault>
     requires { done.ops ≤ 200000 }
-    ensures value { Answers result (line_of_script slots.now done script first arguments.entry no) }
+    ensures value { Answers result (line_of_script places.now.version
+        places.now.slots.now done script first arguments.entry no) }
     ensures ops { IfOk result (λ sections. sections.done.ops ≤ 200000) }
 {
     if matches!(first, Some(Keyword::Rep)) {
@@ -137,7 +137,7 @@ fn script_line(
             }),
         });
     }
-    let op = op(slots, first, arguments, no)?;
+    let op = op(places, first, arguments, no)?;
     let ops = count(done.ops, 1, no)?;
     after_op(
         Done {
@@ -190,7 +190,7 @@ fn end_repeat(
 /// A line of a repeated part.
 #[tactic(auto, unfolding(crate::specs::ScriptLines::line_of_repeat))]
 fn repeat_line(
-    slots: &Slots,
+    places: &Places<'_>,
     done: Done,
     mut part: Repeat,
     first: Option<Keyword>,
@@ -198,13 +198,14 @@ fn repeat_line(
     no: u64,
 ) -> Result<Sections, FileFault>
     requires { done.ops ≤ 200000 }
-    ensures value { Answers result (line_of_repeat slots.now done part first arguments.entry no) }
+    ensures value { Answers result (line_of_repeat places.now.version
+        places.now.slots.now done part first arguments.entry no) }
     ensures ops { IfOk result (λ sections. sections.done.ops ≤ 200000) }
 {
     match first {
         Some(Keyword::End) => end_repeat(done, part, &arguments, no),
         _ => {
-            let op = body_op(slots, first, arguments, no)?;
+            let op = body_op(places, first, arguments, no)?;
             part.body.push(op)?;
             Ok(Sections {
                 done,
@@ -217,12 +218,13 @@ fn repeat_line(
 /// The sections after one more line.
 fn section_line(
     alloc: Global,
-    slots: &Slots,
+    places: &Places<'_>,
     sections: Sections,
     line: Line<'_>,
 ) -> Result<Sections, FileFault>
     requires { sections.done.ops ≤ 200000 }
-    ensures value { Answers result (next_sections slots.now sections line.entry) }
+    ensures value { Answers result (next_sections places.now.version
+        places.now.slots.now sections line.entry) }
     ensures ops { IfOk result (λ sections. sections.done.ops ≤ 200000) }
 {
     let no = line.number;
@@ -230,8 +232,8 @@ fn section_line(
     let Sections { done, place } = sections;
     match place {
         Place::Between => begin(alloc, done, first, &arguments, no),
-        Place::Script(script) => script_line(alloc, slots, done, script, first, arguments, no),
-        Place::Repeat(part) => repeat_line(slots, done, part, first, arguments, no),
+        Place::Script(script) => script_line(alloc, places, done, script, first, arguments, no),
+        Place::Repeat(part) => repeat_line(places, done, part, first, arguments, no),
     }
 }
 
@@ -246,8 +248,12 @@ fn finish(sections: Sections, fault: FileFault) -> Result<ScriptList, FileFault>
 }
 
 /// The vCPU sections, up to the end of the input.
-pub fn scripts(alloc: Global, slots: &Slots, input: &mut Lines<'_>) -> Result<ScriptList, FileFault>
-    ensures { Answers result (scripts_in slots.now input.old) }
+pub fn scripts(
+    alloc: Global,
+    places: &Places<'_>,
+    input: &mut Lines<'_>,
+) -> Result<ScriptList, FileFault>
+    ensures { Answers result (scripts_in places.now.version places.now.slots.now input.old) }
 {
     let mut sections = Sections {
         done: Done {
@@ -258,7 +264,7 @@ pub fn scripts(alloc: Global, slots: &Slots, input: &mut Lines<'_>) -> Result<Sc
     };
     'lines: loop {
         match input.need_line() {
-            Ok(line) => sections = section_line(alloc, slots, sections, line)?,
+            Ok(line) => sections = section_line(alloc, places, sections, line)?,
             Err(fault) => return finish(sections, fault),
         }
     }

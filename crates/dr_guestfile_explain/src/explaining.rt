@@ -21,14 +21,17 @@ pub struct Explained {
     pub text: Text,
 }
 
-/// What is said of a first line that isn't `dirtyguest 1`.
+/// What is said of a first line that says no version of a guest file.
 fn magic_text(alloc: Global, seen: Seen<'_>) -> Result<Text, Memory> {
     let Seen::Line(found) = seen else {
-        return plain(alloc, "the file has to begin with the line `dirtyguest 1`");
+        return plain(
+            alloc,
+            "the file has to begin with the line `dirtyguest 1` or `dirtyguest 2`",
+        );
     };
     let line = found.quoted(alloc)?;
     let text = format!(in alloc;
-        "the file has to begin with the line `dirtyguest 1`, and begins with {line}"
+        "the file has to begin with the line `dirtyguest 1` or `dirtyguest 2`, and begins with {line}"
     )?;
     Ok(Text::from_string(text))
 }
@@ -114,12 +117,12 @@ fn found_text(
     why: FileFault,
 ) -> Result<Text, Memory> {
     match why {
-        FileFault::Number { .. } => number_text(alloc, found),
+        FileFault::Number { .. } => number_text(alloc, above.version, found),
         FileFault::RingSize { .. } => ring_text(alloc, found),
         FileFault::Reserve { .. } => reserve_text(alloc, above, found),
         FileFault::SlotTwice { .. } => twice_text(alloc, above, found),
         FileFault::Unmapped { .. } => unmapped_text(alloc, above, found),
-        FileFault::CrossPage { .. } => crossing_text(alloc, found),
+        FileFault::CrossPage { .. } => crossing_text(alloc, above.version, found),
         _ => plain(alloc, unseen_text(why)),
     }
 }
@@ -147,8 +150,8 @@ fn scene_text(alloc: Global, scene: &Scene<'_>, why: FileFault) -> Result<Text, 
 /// What is said of two slots that share a frame.
 fn explain_overlap(alloc: Global, file: &[u8], a: u32, b: u32) -> Result<Explained, Memory> {
     let scene = scene_at(alloc, file, u64::MAX)?;
-    let earlier = scene.above.slot_line(a);
-    let Some(later) = scene.above.slot_line(b) else {
+    let earlier = scene.above.slot_line(u64::from(a));
+    let Some(later) = scene.above.slot_line(u64::from(b)) else {
         let text = sharing_text(alloc, a, b)?;
         return Ok(Explained { line: None, text });
     };

@@ -1,5 +1,5 @@
 use dr_guestfile::Keyword;
-use dr_guestfile_lines::{Words, decimal};
+use dr_guestfile_lines::{Words, decimal, spaced_number};
 use dr_types::Memory;
 use std::alloc::Global;
 
@@ -93,6 +93,11 @@ impl<'a> Found<'a> {
     /// The number of the second word.
     pub fn number(&self) -> Option<u64> {
         decimal(self.second)
+    }
+
+    /// The space and the number of the second word, in a file of this version.
+    pub fn spaced_number(&self, version: u32) -> Option<(u32, u64)> {
+        spaced_number(version, self.second, u64::MAX)
     }
 
     /// The line between backticks, with one space between words.

@@ -1,5 +1,6 @@
 use crate::found::Found;
 use dr_guestfile::{KEYWORDS, Keyword};
+use dr_types::split_space;
 
 /// What a text begins with that some editors write in front of it. It can't be seen.
 const BYTE_ORDER_MARK: &[u8] = b"\xEF\xBB\xBF";
@@ -33,13 +34,18 @@ fn is_long_number(word: &[u8]) -> bool {
     word.len() > MOST_DIGITS && word.iter().all(|byte| byte.is_ascii_digit())
 }
 
+/// The word without the prefix that names space 1.
+fn after_prefix(word: &[u8]) -> &[u8] {
+    split_space(2, word).1
+}
+
 /// A word that stands where the line has a number is too long.
 fn has_long_number(found: &Found<'_>) -> bool {
     match found.keyword() {
-        Some(Keyword::Slot) => [found.second, found.third, found.fourth]
+        Some(Keyword::Slot) => [after_prefix(found.second), found.third, found.fourth]
             .iter()
             .any(|word| is_long_number(word)),
-        _ => is_long_number(found.second),
+        _ => is_long_number(after_prefix(found.second)),
     }
 }
 

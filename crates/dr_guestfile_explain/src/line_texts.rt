@@ -14,7 +14,7 @@ pub fn plain(alloc: Global, text: &str) -> Result<Text, Memory> {
 /// How a line with this keyword is written.
 fn form(keyword: Keyword) -> &'static str {
     match keyword {
-        Keyword::Dirtyguest => "dirtyguest 1",
+        Keyword::Dirtyguest => "dirtyguest 1` or `dirtyguest 2",
         Keyword::Ring => "ring N",
         Keyword::Reserve => "reserve N",
         Keyword::Buffer => "buffer N",

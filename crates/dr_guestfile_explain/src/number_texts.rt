@@ -7,7 +7,7 @@ use dr_types::limits::{
     GREATEST_SLOT_ID, GREATEST_THRESHOLD, LEAST_RING, LONGEST_NAP_US, MOST_OPS, MOST_PAGES,
     MOST_ROUNDS,
 };
-use dr_types::{Memory, Text};
+use dr_types::{Memory, Text, split_space};
 use std::alloc::Global;
 
 /// The numbers that may stand at a place.
@@ -57,10 +57,17 @@ fn how_written(word: &[u8]) -> &'static str {
     }
 }
 
-/// The word is no number of this range, which the keyword wants.
-fn unfit(alloc: Global, name: &[u8], range: Wanted, word: &[u8]) -> Result<Text, Memory> {
+/// The word is no number of this range, which the keyword wants; `number` is the word without the
+/// prefix that it may have.
+fn unfit(
+    alloc: Global,
+    name: &[u8],
+    range: Wanted,
+    word: &[u8],
+    number: &[u8],
+) -> Result<Text, Memory> {
     let name = quoted(alloc, name)?;
-    let how = how_written(word);
+    let how = how_written(number);
     let word = quoted(alloc, word)?;
     let Wanted { what, low, high } = range;
     let text = format!(in alloc;
@@ -86,11 +93,11 @@ fn some_word(alloc: Global, found: &Found<'_>) -> Result<Text, Memory> {
 fn slot_text(alloc: Global, found: &Found<'_>) -> Result<Text, Memory> {
     let bases = numbers_from("a BASE", 0, FRAMES_END - 1);
     if is_unfit(bases, found.third) {
-        return unfit(alloc, found.first, bases, found.third);
+        return unfit(alloc, found.first, bases, found.third, found.third);
     }
     let pages = few_from("a number of PAGES", 1, MOST_PAGES);
     if is_unfit(pages, found.fourth) {
-        return unfit(alloc, found.first, pages, found.fourth);
+        return unfit(alloc, found.first, pages, found.fourth, found.fourth);
     }
     let line = found.quoted(alloc)?;
     let text = format!(in alloc; "{line}: BASE + PAGES may be {FRAMES_END} at most")?;
@@ -121,16 +128,72 @@ fn fill_text(alloc: Global, found: &Found<'_>) -> Result<Text, Memory> {
     Ok(Text::from_string(text))
 }
 
+/// A number with this keyword may name an address space.
+fn is_spaced(keyword: Keyword) -> bool {
+    matches!(
+        keyword,
+        Keyword::Slot | Keyword::Write | Keyword::Fill | Keyword::Read | Keyword::Store
+    )
+}
+
+/// What is added where a prefix stands that may not: which prefixes may stand in this version.
+fn prefix_hint(version: u32, number: &[u8]) -> &'static str {
+    if !number.contains(&b':') {
+        ""
+    } else if version == 2 {
+        "; the only prefix is `1:`, which names space 1"
+    } else {
+        "; in version 1 no prefix may stand, and in version 2 `1:` names space 1"
+    }
+}
+
+/// The second word of a line whose number may name a space is no such number of this range.
+fn unfit_spaced(
+    alloc: Global,
+    version: u32,
+    range: Wanted,
+    found: &Found<'_>,
+) -> Result<Text, Memory> {
+    let (_, number) = split_space(version, found.second);
+    let mut text = unfit(alloc, found.first, range, found.second, number)?;
+    text.push_str(prefix_hint(version, number))?;
+    Ok(text)
+}
+
+/// What is said of a line with this keyword whose second word is no number of this range.
+fn second_text(
+    alloc: Global,
+    version: u32,
+    keyword: Keyword,
+    range: Wanted,
+    found: &Found<'_>,
+) -> Result<Text, Memory> {
+    if is_spaced(keyword) {
+        unfit_spaced(alloc, version, range, found)
+    } else {
+        unfit(alloc, found.first, range, found.second, found.second)
+    }
+}
+
+/// The number that stands as the second word, after the prefix that it may have.
+fn second_number<'a>(version: u32, keyword: Keyword, found: &Found<'a>) -> &'a [u8] {
+    if is_spaced(keyword) {
+        split_space(version, found.second).1
+    } else {
+        found.second
+    }
+}
+
 /// What is said of a line where a word is no number of its place.
-pub fn number_text(alloc: Global, found: &Found<'_>) -> Result<Text, Memory> {
+pub fn number_text(alloc: Global, version: u32, found: &Found<'_>) -> Result<Text, Memory> {
     let Some(keyword) = found.keyword() else {
         return some_word(alloc, found);
     };
     let Some(range) = range_of(keyword) else {
         return some_word(alloc, found);
     };
-    if is_unfit(range, found.second) {
-        return unfit(alloc, found.first, range, found.second);
+    if is_unfit(range, second_number(version, keyword, found)) {
+        return second_text(alloc, version, keyword, range, found);
     }
     match keyword {
         Keyword::Slot => slot_text(alloc, found),
@@ -152,7 +215,7 @@ fn says_ring_size(found: &Found<'_>) -> bool {
 pub fn ring_text(alloc: Global, found: &Found<'_>) -> Result<Text, Memory> {
     match range_of(Keyword::Ring) {
         Some(range) if found.keyword() == Some(Keyword::Ring) && !says_ring_size(found) => {
-            unfit(alloc, found.first, range, found.second)
+            unfit(alloc, found.first, range, found.second, found.second)
         }
         _ => plain(
             alloc,

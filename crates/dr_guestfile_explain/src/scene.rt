@@ -1,7 +1,7 @@
 use crate::found::Found;
 use crate::op_count::OpCount;
 use dr_guestfile::Keyword;
-use dr_guestfile_lines::{Line, Lines, decimal, number};
+use dr_guestfile_lines::{Line, Lines, decimal, number, spaced_number};
 use dr_types::limits::{GREATEST_SLOT_ID, MOST_SLOTS};
 use dr_types::{FileFault, Memory, SlotRow};
 use std::alloc::Global;
@@ -46,6 +46,8 @@ pub enum Seen<'a> {
 /// What the lines above a line say.
 #[derive(Drop)]
 pub struct Above<'a> {
+    /// The version of the file.
+    pub version: u32,
     pub spot: Spot,
     pub ring: Option<u64>,
     pub reserve: Option<u64>,
@@ -111,22 +113,38 @@ impl Spot {
     }
 }
 
-/// The slot that a line says.
-pub fn slot_of(found: &Found<'_>) -> Option<SlotRow> {
-    let id = number(found.second, 0, u64::from(GREATEST_SLOT_ID))?;
+/// The slot that a line of a file of this version says.
+pub fn slot_of(version: u32, found: &Found<'_>) -> Option<SlotRow> {
+    let (space, id) = spaced_number(version, found.second, u64::from(GREATEST_SLOT_ID))?;
     let base = decimal(found.third)?;
     let pages = number(found.fourth, 1, u64::from(u32::MAX))?;
     Some(SlotRow {
+        space,
         id: id as u32,
         base,
         pages: pages as u32,
     })
 }
 
+/// The slot field of a slot: its space times 65536, and its id.
+pub fn field_of(slot: SlotRow) -> u64 {
+    u64::from(slot.space) * 65_536 + u64::from(slot.id)
+}
+
+/// The version that the first line says.
+fn version_of(found: &Found<'_>) -> u32 {
+    if found.second == b"2".as_slice() {
+        2
+    } else {
+        1
+    }
+}
+
 impl<'a> Above<'a> {
     /// Nothing stands above the first line.
     fn new(alloc: Global) -> Above<'a> {
         Above {
+            version: 1,
             spot: Spot::First,
             ring: None,
             reserve: None,
@@ -139,7 +157,7 @@ impl<'a> Above<'a> {
 
     /// Takes in a slot line.
     fn take_slot(&mut self, no: u64, found: Found<'a>) -> Result<(), Memory> {
-        let Some(slot) = slot_of(&found) else {
+        let Some(slot) = slot_of(self.version, &found) else {
             return Ok(());
         };
         self.pages = self.pages.saturating_add(u64::from(slot.pages));
@@ -153,6 +171,7 @@ impl<'a> Above<'a> {
     fn take(&mut self, no: u64, found: Found<'a>) -> Result<(), Memory> {
         let keyword = found.keyword();
         match keyword {
+            Some(Keyword::Dirtyguest) => self.version = version_of(&found),
             Some(Keyword::Ring) => self.ring = found.number(),
             Some(Keyword::Reserve) => self.reserve = found.number(),
             Some(Keyword::Rounds) => self.rounds = found.number(),
@@ -164,9 +183,12 @@ impl<'a> Above<'a> {
         Ok(())
     }
 
-    /// The first slot line above with this id.
-    pub fn slot_line(&self, id: u32) -> Option<SlotLine<'a>> {
-        self.slots.iter().copied().find(|line| line.slot.id == id)
+    /// The first slot line above with this slot field.
+    pub fn slot_line(&self, field: u64) -> Option<SlotLine<'a>> {
+        self.slots
+            .iter()
+            .copied()
+            .find(|line| field_of(line.slot) == field)
     }
 }
 
@@ -176,7 +198,7 @@ impl<'a> Scene<'a> {
         let Seen::Line(found) = self.seen else {
             return self.above.pages;
         };
-        match slot_of(&found) {
+        match slot_of(self.above.version, &found) {
             Some(slot) => self.above.pages.saturating_add(u64::from(slot.pages)),
             None => self.above.pages,
         }

@@ -42,18 +42,21 @@ fn told_of_op(alloc: Global, lines: &str) -> Result<String, Fail> {
 #[test]
 fn tells_of_first_lines(rt: HostRuntime) -> Result<(), Fail> {
     let rows = [
-        ("", "1: the file has to begin with the line `dirtyguest 1`"),
         (
-            " \n# a guest\n",
-            "1: the file has to begin with the line `dirtyguest 1`",
+            "",
+            "1: the file has to begin with the line `dirtyguest 1` or `dirtyguest 2`",
         ),
         (
-            "# a guest\n\ndirtyguest\t2\n",
-            "3: the file has to begin with the line `dirtyguest 1`, and begins with `dirtyguest 2`",
+            " \n# a guest\n",
+            "1: the file has to begin with the line `dirtyguest 1` or `dirtyguest 2`",
+        ),
+        (
+            "# a guest\n\ndirtyguest\t3\n",
+            "3: the file has to begin with the line `dirtyguest 1` or `dirtyguest 2`, and begins with `dirtyguest 3`",
         ),
         (
             "\x1b[2J ring\x07 8\n",
-            "1: the file has to begin with the line `dirtyguest 1`, and begins with `?[2J ring? 8`",
+            "1: the file has to begin with the line `dirtyguest 1` or `dirtyguest 2`, and begins with `?[2J ring? 8`",
         ),
         (
             "dirtyguest 1\n",
@@ -463,7 +466,7 @@ fn tells_of_other_faults(rt: HostRuntime) -> Result<(), Fail> {
         ),
         (
             FileFault::Magic { no: 3 },
-            "3: the file has to begin with the line `dirtyguest 1`",
+            "3: the file has to begin with the line `dirtyguest 1` or `dirtyguest 2`",
         ),
         (
             FileFault::Line { no: 3 },
@@ -520,35 +523,140 @@ fn tells_of_other_faults_of_slots(rt: HostRuntime) -> Result<(), Fail> {
     Ok(())
 }
 
+/// What is said of a file of version 2, whose lines from 9 on are these.
+fn told_of_version_2(alloc: Global, lines: &str) -> Result<String, Fail> {
+    let file = format!(in alloc;
+        "dirtyguest 2\nring 8\nreserve 2\nbuffer 0\npace 16\nthreshold 0\nrounds 2\nquota 0\n{lines}"
+    )?;
+    told(alloc, file.as_str())
+}
+
+#[test]
+fn tells_of_prefixes(rt: HostRuntime) -> Result<(), Fail> {
+    let rows = [
+        (
+            "slot 2:0 0 1\n",
+            "9: `slot` wants an ID from 0 to 65535 in decimal digits, and `2:0` is none; the only \
+             prefix is `1:`, which names space 1",
+        ),
+        (
+            "slot 1:65536 0 1\n",
+            "9: `slot` wants an ID from 0 to 65535, and `1:65536` is none",
+        ),
+        (
+            "slot 1:000000000000000000001 0 1\n",
+            "9: `slot` wants an ID from 0 to 65535, and `1:000000000000000000001` is none; a \
+             number has at most 20 digits",
+        ),
+        (
+            "slot 0 1:0 1\n",
+            "9: `slot` wants a BASE from 0 to 4503599627370495 in decimal digits, and `1:0` is none",
+        ),
+        (
+            "slot 0 0 1\nvcpu\nw 0:0 41\n",
+            "11: `w` wants an address from 0 to 18446744073709551615 in decimal digits, and `0:0` \
+             is none; the only prefix is `1:`, which names space 1",
+        ),
+        (
+            "slot 0 0 1\nvcpu\nr 1:1:0\n",
+            "11: `r` wants an address from 0 to 18446744073709551615 in decimal digits, and \
+             `1:1:0` is none; the only prefix is `1:`, which names space 1",
+        ),
+        (
+            "slot 0 0 1\nvcpu\nf 1:x 00\n",
+            "11: `f` wants a frame number from 0 to 18446744073709551615 in decimal digits, and \
+             `1:x` is none",
+        ),
+    ];
+    for (lines, wanted) in rows {
+        assert_eq!(rt; told_of_version_2(rt.alloc(), lines)?.as_str(), wanted);
+    }
+    assert_eq!(rt;
+        told_of_op(rt.alloc(), "w 1:0 41\n")?.as_str(),
+        "12: `w` wants an address from 0 to 18446744073709551615 in decimal digits, and `1:0` is \
+         none; in version 1 no prefix may stand, and in version 2 `1:` names space 1"
+    );
+    Ok(())
+}
+
+#[test]
+fn tells_of_spaces(rt: HostRuntime) -> Result<(), Fail> {
+    let rows = [
+        (
+            "slot 1:0 0 4\nslot 1:1 3 2\n",
+            "10: `slot 1:1 3 2` shares guest frames with slot 1:0 of line 9",
+        ),
+        (
+            "slot 1:0 0 1\nslot 0 0 1\nslot 1:0 4 1\n",
+            "11: `slot 1:0 4 1`: slot 1:0 stands on line 9 already, and each ID may stand once in \
+             each space",
+        ),
+        (
+            "slot 0 0 1\nvcpu\nw 1:0 01\n",
+            "11: `w 1:0 01`: no slot stands in space 1",
+        ),
+        (
+            "slot 0 0 1\nslot 1:3 16 1\nvcpu\nw 1:0 01\n",
+            "12: `w 1:0 01`: address 1:0 lies in no slot; the nearest, slot 1:3, has the \
+             addresses 1:65536 to 1:69631",
+        ),
+        (
+            "slot 0 0 1\nslot 1:3 16 1\nvcpu\nf 1:17 00\n",
+            "12: `f 1:17 00`: frame 1:17 lies in no slot; the nearest, slot 1:3, has the frames \
+             1:16 to 1:16",
+        ),
+        (
+            "slot 0 0 1\nslot 1:3 16 1\nvcpu\nw 4096 01\n",
+            "12: `w 4096 01`: address 4096 lies in no slot; the nearest, slot 0, has the \
+             addresses 0 to 4095",
+        ),
+        (
+            "slot 1:3 16 1\nvcpu\ns 1:69625\n",
+            "11: `s 1:69625`: the 8 bytes from 1:69625 on don't lie in one page of 4096 bytes; in \
+             this page they may begin at 1:69624 at most",
+        ),
+    ];
+    for (lines, wanted) in rows {
+        assert_eq!(rt; told_of_version_2(rt.alloc(), lines)?.as_str(), wanted);
+    }
+    let file = b"dirtyguest 2\nring 8\n";
+    let why = FileFault::Overlap { a: 3, b: 65_539 };
+    assert_eq!(rt;
+        told_of(rt.alloc(), file, why)?.as_str(),
+        "slots 3 and 1:3 share guest frames"
+    );
+    Ok(())
+}
+
 /// What can't be seen in a line is named, and what other files may have.
 #[test]
 fn tells_of_habits_of_other_files(rt: HostRuntime) -> Result<(), Fail> {
     let rows = [
         (
             "\u{feff}dirtyguest 1\n",
-            "1: the file has to begin with the line `dirtyguest 1`, and begins with \
-             `???dirtyguest 1`; a byte order mark, which can't be seen, stands at its start",
+            "1: the file has to begin with the line `dirtyguest 1` or `dirtyguest 2`, and begins \
+             with `???dirtyguest 1`; a byte order mark, which can't be seen, stands at its start",
         ),
         (
             "dirtyguest\u{a0}1\n",
-            "1: the file has to begin with the line `dirtyguest 1`, and begins with \
-             `dirtyguest??1`; a no-break space is in it, and only spaces and tabs part words",
+            "1: the file has to begin with the line `dirtyguest 1` or `dirtyguest 2`, and begins \
+             with `dirtyguest??1`; a no-break space is in it, and only spaces and tabs part words",
         ),
         (
             "dirtyguest 1\rring 8\r",
-            "1: the file has to begin with the line `dirtyguest 1`, and begins with \
-             `dirtyguest 1?ring 8`; a carriage return is in it, which may stand only before a \
+            "1: the file has to begin with the line `dirtyguest 1` or `dirtyguest 2`, and begins \
+             with `dirtyguest 1?ring 8`; a carriage return is in it, which may stand only before a \
              line feed",
         ),
         (
             "DirtyGuest 1\n",
-            "1: the file has to begin with the line `dirtyguest 1`, and begins with \
-             `DirtyGuest 1`; keywords are written in small letters",
+            "1: the file has to begin with the line `dirtyguest 1` or `dirtyguest 2`, and begins \
+             with `DirtyGuest 1`; keywords are written in small letters",
         ),
         (
             "dirtyguest 1 # a guest\n",
-            "1: the file has to begin with the line `dirtyguest 1`, and begins with \
-             `dirtyguest 1 # a ..`; a comment needs a line of its own",
+            "1: the file has to begin with the line `dirtyguest 1` or `dirtyguest 2`, and begins \
+             with `dirtyguest 1 # a ..`; a comment needs a line of its own",
         ),
         (
             "dirtyguest 1\nring 000000000000000000008\n",

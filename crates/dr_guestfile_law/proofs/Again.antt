@@ -1,5 +1,5 @@
 -- What was written is read again.
-use Rattle.std.proofs.Common.{◌≡◌, ℕ, ◌+◌, ◌^◌, ◌-◌, ◌<◌, ◌≤◌, true, List, ◌∷◌, ◌++◌, Ok, refl, arith}
+use Rattle.std.proofs.Common.{◌≡◌, ℕ, ◌+◌, ◌^◌, ◌-◌, ◌<◌, ◌≤◌, true, List, ◌∷◌, ◌++◌, Ok, refl, ap, ◌∙◌, arith}
 use Rattle.std.specs.Prelude.{nat_le, nat_lt, codes, decimal}
 use Rattle.std.specs.Str.{bytes_eq}
 use Rattle.std.proofs.lemmas.Bool.{le-leb, lt-ltb}
@@ -8,7 +8,12 @@ use Rattle.dr_types.specs.declared.guest.Settings.{Settings}
 use Rattle.dr_types.specs.Validity.{AreSettings}
 use Rattle.dr_guestfile_lines.specs.declared.lines.Line.{Line}
 use Rattle.dr_guestfile_lines.specs.Input.{Input}
-use Rattle.dr_guestfile_lines.specs.Reading.{number_of}
+use Rattle.dr_guestfile_lines.specs.Numbers.{number_in_space}
+use Rattle.dr_guestfile_lines.specs.Reading.{number_of, spaced_number_of}
+use Rattle.dr_types.specs.Spaces.{spaced_word}
+use Rattle.dr_types.proofs.Spaces.{spaced_again}
+use Rattle.dr_types.specs.declared.fault.FileFault.TheVariants as fault
+use Rattle.std.specs.Option.{ok_or}
 use Rattle.dr_guestfile.specs.SettingLines.{setting_of, setting_in, settings_in, is_ring_size}
 use Rattle.dr_types.specs.GuestText.{settings_lines}
 use Rattle.dr_types.specs.Lines.{named}
@@ -26,6 +31,14 @@ number_again low high n line above below fits =
     let a : nat_le low n ≡ true = le-leb _ _ above in
     let b : nat_le n high ≡ true = le-leb _ _ below in
     rw (decimal_number-decimal n fits, a, b) refl
+
+-- a number with its space
+pub spaced_number_again : (version most space n line : ℕ) → 1 ≤ version → version ≤ 2 → space < version → n ≤ most → n < 2 ^ 64 → spaced_number_of version most (spaced_word space n) line ≡ Ok (space, n)
+spaced_number_again version most space n line some few within below fits =
+    let a : nat_le 0 n ≡ true = le-leb _ _ (omega arith) in
+    let b : nat_le n most ≡ true = le-leb _ _ below in
+    ap (λ (split : ℕ × List ℕ). ok_or (number_in_space most split) (fault.Number line)) (spaced_again version space n some few within fits)
+    ∙ rw (decimal_number-decimal n fits, a, b) refl
 
 setting_of-again : (name : List ℕ) (low high n line : ℕ) → low ≤ n → n ≤ high → n < 2 ^ 64 → setting_of name low high (record { number = line; words = named name n }) ≡ Ok (record { no = line; number = n })
 unfolding setting_of

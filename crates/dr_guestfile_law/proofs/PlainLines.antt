@@ -1,5 +1,5 @@
 -- The lines of a guest are lines of words that can be written.
-use Rattle.std.proofs.Common.{◌≡◌, ℕ, ◌+◌, ◌^◌, ◌≤◌, ◌<◌, Bool, true, false, not, ◌&&◌, List, [], ◌∷◌, ◌++◌, length, map, refl, sym, subst, ◌∙◌, arith, length-take, inl, inr}
+use Rattle.std.proofs.Common.{◌≡◌, ℕ, cond, ◌+◌, ◌^◌, ◌≤◌, ◌<◌, Bool, true, false, not, ◌&&◌, List, [], ◌∷◌, ◌++◌, length, map, refl, sym, subst, ◌∙◌, arith, length-take, inl, inr}
 use Rattle.std.specs.Prelude.{nat_lt, nat_le, slice_index, ◌==◌, All, codes, decimal}
 use Rattle.std.specs.Int.{w64, to_le_bytes}
 use Rattle.std.specs.List.{flat_map, list_all}
@@ -21,6 +21,7 @@ use Rattle.dr_types.specs.declared.guest.Guest.{Guest}
 use Rattle.dr_types.specs.Validity.{AreSettings, IsOp, AreOps, IsItem, AreItems, IsScript, AreScripts, IsValid}
 use Rattle.dr_types.specs.GuestText.{settings_lines, slot_line, op_line, item_lines, script_lines, guest_lines}
 use Rattle.dr_types.specs.Lines.{named, low_bytes}
+use Rattle.dr_types.specs.Spaces.{spaced_word}
 use Rattle.dr_guestfile_law.proofs.Lexing.{AllAbove, AreWords, AreLines, AreNoComments, decimal_above}
 use Rattle.dr_guestfile_law.proofs.OpsAgain.{one_byte, bytes_fit}
 
@@ -65,6 +66,16 @@ line name arguments is are =
 number : (n : ℕ) (words : List (List ℕ)) → n < 2 ^ 64 → AreWords words → AreWords (decimal n ∷ words)
 number n words fits are = let numeral = decimal_is_IsNumeral n fits in (numeral.0.0, decimal_above (decimal n) numeral.0.1, are)
 
+-- the word of a number with its space
+spaced_case : (plain : Bool) (n : ℕ) (words : List (List ℕ)) → n < 2 ^ 64 → AreWords words → AreWords ((cond plain [] (codes "1:") ++ decimal n) ∷ words)
+spaced_case true n words fits are = number n words fits are
+spaced_case false n words fits are =
+    let numeral = decimal_is_IsNumeral n fits in
+    (omega arith, (omega arith, (omega arith, decimal_above (decimal n) numeral.0.1)), are)
+
+spaced_one : (space n : ℕ) (words : List (List ℕ)) → n < 2 ^ 64 → AreWords words → AreWords (spaced_word space n ∷ words)
+spaced_one space n words fits are = spaced_case (space == 0) n words fits are
+
 named_line : (name : List ℕ) (n : ℕ) → is_name name ≡ true → n < 2 ^ 64 → ArePlain (named name n ∷ [])
 named_line name n is fits = line name (decimal n ∷ []) is (number n [] fits tt)
 
@@ -99,8 +110,8 @@ settings_plain s are =
 
 slot_plain : (row : SlotRow) → row.id ≤ 65535 → row.base + row.pages ≤ 2 ^ 52 → ArePlain (slot_line row ∷ [])
 slot_plain row id ends =
-    line (codes "slot") (decimal row.id ∷ decimal row.base ∷ decimal row.pages ∷ []) refl
-    (number row.id (decimal row.base ∷ decimal row.pages ∷ []) (omega (arith, id)) (number row.base (decimal row.pages ∷ []) (omega (arith, ends)) (number row.pages [] (omega (arith, ends)) tt)))
+    line (codes "slot") (spaced_word row.space row.id ∷ decimal row.base ∷ decimal row.pages ∷ []) refl
+    (spaced_one row.space row.id (decimal row.base ∷ decimal row.pages ∷ []) (omega (arith, id)) (number row.base (decimal row.pages ∷ []) (omega (arith, ends)) (number row.pages [] (omega (arith, ends)) tt)))
 
 slots_plain : (rows : List SlotRow) → All (λ row. row.id ≤ 65535) rows → All (λ row. row.base + row.pages ≤ 2 ^ 52) rows → ArePlain (map slot_line rows)
 slots_plain [] ids ends = none
@@ -109,13 +120,13 @@ slots_plain (row ∷ rows) ids ends =
     (slots_plain rows (All-tail (λ row. row.id ≤ 65535) row rows ids) (All-tail (λ row. row.base + row.pages ≤ 2 ^ 52) row rows ends))
 
 op_plain : (slots : List SlotRow) (op : Op) → IsOp slots op → ArePlain (op_line op ∷ [])
-op_plain slots (W address len value) is =
-    line (codes "w") (decimal address ∷ encode_lower (low_bytes len value) ∷ []) refl
-    (number address (encode_lower (low_bytes len value) ∷ []) is.0 (hex (low_bytes len value) (omega (arith, is.1, is.2, length-take len (to_le_bytes w64 value))) (bytes_fit len value)))
-op_plain slots (F frame byte) is = line (codes "f") (decimal frame ∷ encode_lower (byte ∷ []) ∷ []) refl (number frame (encode_lower (byte ∷ []) ∷ []) is.0 (hex (byte ∷ []) (omega arith) (one_byte byte is.1)))
-op_plain slots (R address) is = named_line (codes "r") address refl is.0
+op_plain slots (W space address len value) is =
+    line (codes "w") (spaced_word space address ∷ encode_lower (low_bytes len value) ∷ []) refl
+    (spaced_one space address (encode_lower (low_bytes len value) ∷ []) is.0 (hex (low_bytes len value) (omega (arith, is.1, is.2, length-take len (to_le_bytes w64 value))) (bytes_fit len value)))
+op_plain slots (F space frame byte) is = line (codes "f") (spaced_word space frame ∷ encode_lower (byte ∷ []) ∷ []) refl (spaced_one space frame (encode_lower (byte ∷ []) ∷ []) is.0 (hex (byte ∷ []) (omega arith) (one_byte byte is.1)))
+op_plain slots (R space address) is = line (codes "r") (spaced_word space address ∷ []) refl (spaced_one space address [] is.0 tt)
 op_plain slots (A n) is = named_line (codes "a") n refl is
-op_plain slots (S address) is = named_line (codes "s") address refl is.0
+op_plain slots (S space address) is = line (codes "s") (spaced_word space address ∷ []) refl (spaced_one space address [] is.0 tt)
 op_plain slots (Nap us) is = named_line (codes "nap") us refl (omega (arith, is))
 op_plain slots Halt is = absurd is
 
@@ -148,7 +159,7 @@ scripts_plain slots (script ∷ scripts) are =
 
 pub guest_plain : (guest : Guest) → IsValid guest → ArePlain (guest_lines guest)
 guest_plain guest is =
-    append ((codes "dirtyguest" ∷ codes "1" ∷ []) ∷ []) (settings_lines guest.settings ++ (map slot_line guest.slots ++ flat_map script_lines guest.scripts))
-    (line (codes "dirtyguest") (codes "1" ∷ []) refl (omega arith, above_from_test (codes "1") refl, tt))
+    append (named (codes "dirtyguest") guest.version ∷ []) (settings_lines guest.settings ++ (map slot_line guest.slots ++ flat_map script_lines guest.scripts))
+    (named_line (codes "dirtyguest") guest.version refl (omega (arith, is.version)))
     (append (settings_lines guest.settings) (map slot_line guest.slots ++ flat_map script_lines guest.scripts) (settings_plain guest.settings is.settings)
     (append (map slot_line guest.slots) (flat_map script_lines guest.scripts) (slots_plain guest.slots is.slots.ids is.slots.ends) (scripts_plain guest.slots guest.scripts is.scripts)))

@@ -21,7 +21,7 @@ use Rattle.dr_types.specs.GuestText.{op_line, item_lines, script_lines}
 use Rattle.dr_types.specs.Lines.{named}
 use Rattle.dr_guestfile_law.proofs.Again.{number_again}
 use Rattle.dr_guestfile_law.proofs.Lexing.{numbered}
-use Rattle.dr_guestfile_law.proofs.OpsAgain.{op_again, halt_again}
+use Rattle.dr_guestfile_law.proofs.OpsAgain.{HasSpaces, op_again, halt_again}
 use Rattle.dr_guestfile.proofs.SectionParts.{length_repeated, expanded-append, expanded-one}
 
 abbrev between : List (List Item) → ℕ → Sections
@@ -37,54 +37,54 @@ counted_again : (ops more line : ℕ) → ops + more ≤ 200000 → counted ops 
 unfolding counted
 counted_again ops more line few = let test : nat_le (ops + more) 200000 ≡ true = le-leb _ _ few in rw test refl
 
-module _ (slots : List SlotRow) where
+module _ (version : ℕ) (slots : List SlotRow) (has : HasSpaces version slots) where
   -- these lines lead from one state to another, whatever follows
   pub record Leads (start : Sections) (lines : List (List (List ℕ))) (end : Sections) : Type 0 where
-    pub lead : (line : ℕ) (more : List (List (List ℕ))) (past : ℕ) → sections_from slots start (numbered line (lines ++ more)) past ≡ sections_from slots end (numbered (line + length lines) more) past
+    pub lead : (line : ℕ) (more : List (List (List ℕ))) (past : ℕ) → sections_from version slots start (numbered line (lines ++ more)) past ≡ sections_from version slots end (numbered (line + length lines) more) past
 
   nothing : (s : Sections) → Leads s [] s
-  nothing s = record { lead = λ line more past. ap (λ (n : ℕ). sections_from slots s (numbered n more) past) (omega arith) }
+  nothing s = record { lead = λ line more past. ap (λ (n : ℕ). sections_from version slots s (numbered n more) past) (omega arith) }
 
-  one : (s t : Sections) (words : List (List ℕ)) → ((line : ℕ) → section_line slots s (record { number = line; words = words }) ≡ Ok t) → Leads s (words ∷ []) t
+  one : (s t : Sections) (words : List (List ℕ)) → ((line : ℕ) → section_line version slots s (record { number = line; words = words }) ≡ Ok t) → Leads s (words ∷ []) t
   unfolding sections_from
   one s t words reads = record { lead = λ line more past. let e = reads line in rw e refl }
 
   then : (s t u : Sections) (first later : List (List (List ℕ))) → Leads s first t → Leads t later u → Leads s (first ++ later) u
   then s t u first later a b = record {
     lead = λ line more past.
-        ap (λ (lines : List (List (List ℕ))). sections_from slots s (numbered line lines) past) (append_assoc first later more)
+        ap (λ (lines : List (List (List ℕ))). sections_from version slots s (numbered line lines) past) (append_assoc first later more)
         ∙ a.lead line (later ++ more) past ∙ b.lead (line + length first) more past
-        ∙ ap (λ (n : ℕ). sections_from slots u (numbered n more) past) (omega (arith, length-append first later));
+        ∙ ap (λ (n : ℕ). sections_from version slots u (numbered n more) past) (omega (arith, length-append first later));
   }
 
-  begins : (scripts : List (List Item)) (ops line : ℕ) → length scripts < 32 → section_line slots (between scripts ops) (record { number = line; words = codes "vcpu" ∷ [] }) ≡ Ok (within scripts ops [])
+  begins : (scripts : List (List Item)) (ops line : ℕ) → length scripts < 32 → section_line version slots (between scripts ops) (record { number = line; words = codes "vcpu" ∷ [] }) ≡ Ok (within scripts ops [])
   unfolding line_between
   begins scripts ops line few = let test : nat_lt (length scripts) 32 ≡ true = lt-ltb _ _ few in rw test refl
 
   op_in_script : (scripts : List (List Item)) (ops : ℕ) (script : List Item) (op : Op) (line : ℕ) → IsOp slots op → ops + 1 ≤ 200000
-      → section_line slots (within scripts ops script) (record { number = line; words = op_line op }) ≡ Ok (within scripts (ops + 1) (script ++ One op ∷ []))
+      → section_line version slots (within scripts ops script) (record { number = line; words = op_line op }) ≡ Ok (within scripts (ops + 1) (script ++ One op ∷ []))
   unfolding line_of_script
   op_in_script scripts ops script Halt line is few = absurd is
-  op_in_script scripts ops script op line is few = rw (op_again slots op line is, counted_again ops 1 line few) refl
+  op_in_script scripts ops script op line is few = rw (op_again version slots op line has is, counted_again ops 1 line few) refl
 
   halts : (scripts : List (List Item)) (ops : ℕ) (script : List Item) (line : ℕ) → ops + 1 ≤ 200000
-      → section_line slots (within scripts ops script) (record { number = line; words = op_line Halt }) ≡ Ok (between (scripts ++ (script ++ One Halt ∷ []) ∷ []) (ops + 1))
+      → section_line version slots (within scripts ops script) (record { number = line; words = op_line Halt }) ≡ Ok (between (scripts ++ (script ++ One Halt ∷ []) ∷ []) (ops + 1))
   unfolding line_of_script
-  halts scripts ops script line few = rw (halt_again slots line, counted_again ops 1 line few) refl
+  halts scripts ops script line few = rw (halt_again version slots line, counted_again ops 1 line few) refl
 
   repeats : (scripts : List (List Item)) (ops : ℕ) (script : List Item) (times line : ℕ) → 1 ≤ times → times ≤ 200000
-      → section_line slots (within scripts ops script) (record { number = line; words = named (codes "rep") times }) ≡ Ok (repeating scripts ops script times [])
+      → section_line version slots (within scripts ops script) (record { number = line; words = named (codes "rep") times }) ≡ Ok (repeating scripts ops script times [])
   unfolding line_of_script
   repeats scripts ops script times line some few = rw (number_again 1 200000 times line some few (omega (arith, few))) refl
 
   op_in_repeat : (scripts : List (List Item)) (ops : ℕ) (script : List Item) (times : ℕ) (body : List Op) (op : Op) (line : ℕ) → IsOp slots op
-      → section_line slots (repeating scripts ops script times body) (record { number = line; words = op_line op }) ≡ Ok (repeating scripts ops script times (body ++ op ∷ []))
+      → section_line version slots (repeating scripts ops script times body) (record { number = line; words = op_line op }) ≡ Ok (repeating scripts ops script times (body ++ op ∷ []))
   unfolding line_of_repeat op_of_body
   op_in_repeat scripts ops script times body Halt line is = absurd is
-  op_in_repeat scripts ops script times body op line is = rw (op_again slots op line is) refl
+  op_in_repeat scripts ops script times body op line is = rw (op_again version slots op line has is) refl
 
   ends : (scripts : List (List Item)) (ops : ℕ) (script : List Item) (times : ℕ) (body : List Op) (line : ℕ) → 1 ≤ length body → ops + times * length body ≤ 200000
-      → section_line slots (repeating scripts ops script times body) (record { number = line; words = codes "end" ∷ [] }) ≡ Ok (within scripts (ops + times * length body) (script ++ Rep times body ∷ []))
+      → section_line version slots (repeating scripts ops script times body) (record { number = line; words = codes "end" ∷ [] }) ≡ Ok (within scripts (ops + times * length body) (script ++ Rep times body ∷ []))
   unfolding line_of_repeat end_of_repeat
   ends scripts ops script times body line some few =
       let test : nat_lt 0 (length body) ≡ true = lt-ltb _ _ (omega (arith, some)) in
@@ -168,15 +168,15 @@ module _ (slots : List SlotRow) where
       subst (λ (lines : List (List (List ℕ))). Leads (between earlier ops) lines (between (earlier ++ script ∷ scripts) after)) (sym (flat_map-cons script_lines script scripts))
       (subst (λ (all : List (List Item)). Leads (between earlier ops) (script_lines script ++ flat_map script_lines scripts) (between all after)) (append_assoc earlier (script ∷ []) scripts) whole)
 
-  all_done : (scripts : List (List Item)) (ops past : ℕ) → 1 ≤ length scripts → sections_from slots (between scripts ops) [] past ≡ Ok scripts
+  all_done : (scripts : List (List Item)) (ops past : ℕ) → 1 ≤ length scripts → sections_from version slots (between scripts ops) [] past ≡ Ok scripts
   unfolding sections_from
   all_done [] ops past some = absurd (omega (arith, some))
   all_done (script ∷ scripts) ops past some = refl
 
   -- the sections of a guest, up to the end
   pub sections_again : (scripts : List (List Item)) (line past : ℕ) → 1 ≤ length scripts → length scripts ≤ 32 → AreScripts slots scripts → op_count scripts ≤ 200000
-      → sections_from slots (between [] 0) (numbered line (flat_map script_lines scripts)) past ≡ Ok scripts
+      → sections_from version slots (between [] 0) (numbered line (flat_map script_lines scripts)) past ≡ Ok scripts
   sections_again scripts line past some few are ops =
-      ap (λ (lines : List (List (List ℕ))). sections_from slots (between [] 0) (numbered line lines) past) (sym (append-nil (flat_map script_lines scripts)))
+      ap (λ (lines : List (List (List ℕ))). sections_from version slots (between [] 0) (numbered line lines) past) (sym (append-nil (flat_map script_lines scripts)))
       ∙ (scripts_again [] 0 (op_count scripts) scripts (omega (arith, few)) are (omega arith) ops).lead line [] past
       ∙ all_done scripts (op_count scripts) past some

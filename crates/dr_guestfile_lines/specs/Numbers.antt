@@ -7,6 +7,7 @@ use Rattle.std.specs.Option.{option_map}
 use Rattle.std.specs.Result.{result_ok}
 use Rattle.std.specs.Str.Parse.{digits_value}
 use Rattle.hex.specs.Hex.{decode_of}
+use Rattle.dr_types.specs.Spaces.{spaced}
 
 -- 1 to 20 digits
 abbrev pub is_decimal_word : List ℕ → Bool
@@ -24,6 +25,15 @@ decimal_number word =
 abbrev pub within : ℕ → ℕ → Option ℕ → Option ℕ
 within low high None = None
 within low high (Some n) = if nat_le low n && nat_le n high then Some n else None
+
+-- the number that is left of a word that names its space, from 0 to a greatest one
+abbrev pub number_in_space : ℕ → ℕ × List ℕ → Option (ℕ × ℕ)
+number_in_space most split =
+    option_map (λ number. (split.0, number)) (within 0 most (decimal_number split.1))
+
+-- the space and the number that a word says in a file of this version
+abbrev pub spaced_number : ℕ → ℕ → List ℕ → Option (ℕ × ℕ)
+spaced_number version most word = number_in_space most (spaced version word)
 
 -- a hex word of 1 to so many bytes
 abbrev pub hex_bytes : ℕ → List ℕ → Option (List ℕ)

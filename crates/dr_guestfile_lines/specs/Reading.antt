@@ -6,7 +6,7 @@ use Rattle.dr_types.specs.declared.fault.FileFault.{FileFault}
 use Rattle.dr_types.specs.declared.fault.FileFault.TheVariants as fault
 use Rattle.dr_guestfile_lines.specs.declared.lines.Line.{Line}
 use Rattle.dr_guestfile_lines.specs.Input.{Input}
-use Rattle.dr_guestfile_lines.specs.Numbers.{decimal_number, within}
+use Rattle.dr_guestfile_lines.specs.Numbers.{decimal_number, within, spaced_number}
 use Rattle.dr_guestfile_lines.specs.Words.{begins_with}
 
 infixl 10 ◌>>=◌
@@ -47,6 +47,11 @@ line_in input = next_of input.lines input.past
 -- a word of this line that has to be a decimal number in this range
 abbrev pub number_of : ℕ → ℕ → List ℕ → ℕ → Result ℕ FileFault
 number_of low high word line = ok_or (within low high (decimal_number word)) (fault.Number line)
+
+-- a word of this line that has to be a number, with its space, in a file of this version
+abbrev pub spaced_number_of : ℕ → ℕ → List ℕ → ℕ → Result (ℕ × ℕ) FileFault
+spaced_number_of version most word line =
+    ok_or (spaced_number version most word) (fault.Number line)
 
 -- the next line begins with this word
 abbrev pub next_begins : List ℕ → List Line → Bool

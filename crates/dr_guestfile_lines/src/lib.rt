@@ -6,5 +6,5 @@ mod numbers;
 mod words;
 
 pub use lines::{Line, Lines};
-pub use numbers::{decimal, hex_byte, hex_word, number};
+pub use numbers::{decimal, hex_byte, hex_word, number, spaced_number};
 pub use words::Words;

@@ -2,8 +2,9 @@ ghost use Rattle.std.specs.Prelude.{◌≡◌, ◌≤◌, ◌<◌, IfSome};
 ghost use Rattle.std.specs.Char.{is_ascii_digit};
 ghost use Rattle.std.specs.List.{list_all};
 ghost use Rattle.dr_guestfile_lines.specs.Numbers.{is_decimal_word, decimal_number, within};
-ghost use Rattle.dr_guestfile_lines.specs.Numbers.{hex_number, hex_byte_of};
+ghost use Rattle.dr_guestfile_lines.specs.Numbers.{hex_number, hex_byte_of, spaced_number};
 
+use dr_types::split_space;
 use std::str::from_utf8;
 
 /// Each byte is a digit.
@@ -44,6 +45,18 @@ pub fn number(word: &[u8], low: u64, high: u64) -> Option<u64>
     } else {
         None
     }
+}
+
+/// The space and the number of a word that may name an address space, in a file of this version,
+/// where the number is decimal and not above `most`.
+pub fn spaced_number(version: u32, word: &[u8], most: u64) -> Option<(u32, u64)>
+    ensures value { result ≡ spaced_number version most word.now }
+    ensures space { IfSome result (λ found. found.0 ≤ 1) }
+    ensures most { IfSome result (λ found. found.1 ≤ most) }
+{
+    let (space, digits) = split_space(version, word);
+    let number = number(digits, 0, most)?;
+    Some((space, number))
 }
 
 /// How many bytes a hex word has, 1 to `most` of them, and the number whose lowest byte is the

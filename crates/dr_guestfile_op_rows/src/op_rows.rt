@@ -302,6 +302,7 @@ const READ_ROWS: &[(&str, Op)] = &[
     (
         "w 4096 00",
         Op::W {
+            space: 0,
             addr: 4096,
             len: 1,
             value: 0,
@@ -310,6 +311,7 @@ const READ_ROWS: &[(&str, Op)] = &[
     (
         "w 4096 ff",
         Op::W {
+            space: 0,
             addr: 4096,
             len: 1,
             value: 255,
@@ -318,6 +320,7 @@ const READ_ROWS: &[(&str, Op)] = &[
     (
         "w 4097 0102",
         Op::W {
+            space: 0,
             addr: 4097,
             len: 2,
             value: 0x0201,
@@ -326,6 +329,7 @@ const READ_ROWS: &[(&str, Op)] = &[
     (
         "w 4098 010203",
         Op::W {
+            space: 0,
             addr: 4098,
             len: 3,
             value: 0x030201,
@@ -334,6 +338,7 @@ const READ_ROWS: &[(&str, Op)] = &[
     (
         "w 8190 0100",
         Op::W {
+            space: 0,
             addr: 8190,
             len: 2,
             value: 1,
@@ -342,6 +347,7 @@ const READ_ROWS: &[(&str, Op)] = &[
     (
         "w 8191 00",
         Op::W {
+            space: 0,
             addr: 8191,
             len: 1,
             value: 0,
@@ -350,6 +356,7 @@ const READ_ROWS: &[(&str, Op)] = &[
     (
         "w 8192 01",
         Op::W {
+            space: 0,
             addr: 8192,
             len: 1,
             value: 1,
@@ -358,6 +365,7 @@ const READ_ROWS: &[(&str, Op)] = &[
     (
         "w 16383 7f",
         Op::W {
+            space: 0,
             addr: 16383,
             len: 1,
             value: 127,
@@ -366,6 +374,7 @@ const READ_ROWS: &[(&str, Op)] = &[
     (
         "w 8184 0123456789abcdef",
         Op::W {
+            space: 0,
             addr: 8184,
             len: 8,
             value: 0xefcdab8967452301,
@@ -374,6 +383,7 @@ const READ_ROWS: &[(&str, Op)] = &[
     (
         "w 4294967296 ffffffffffffffff",
         Op::W {
+            space: 0,
             addr: 4294967296,
             len: 8,
             value: 18446744073709551615,
@@ -382,6 +392,7 @@ const READ_ROWS: &[(&str, Op)] = &[
     (
         "w 4294971391 80",
         Op::W {
+            space: 0,
             addr: 4294971391,
             len: 1,
             value: 128,
@@ -390,6 +401,7 @@ const READ_ROWS: &[(&str, Op)] = &[
     (
         "w 18446744073709547520 0000",
         Op::W {
+            space: 0,
             addr: 18446744073709547520,
             len: 2,
             value: 0,
@@ -398,16 +410,32 @@ const READ_ROWS: &[(&str, Op)] = &[
     (
         "w 18446744073709551615 a5",
         Op::W {
+            space: 0,
             addr: 18446744073709551615,
             len: 1,
             value: 165,
         },
     ),
-    ("f 1 00", Op::F { gfn: 1, byte: 0 }),
-    ("f 3 ff", Op::F { gfn: 3, byte: 255 }),
+    (
+        "f 1 00",
+        Op::F {
+            space: 0,
+            gfn: 1,
+            byte: 0,
+        },
+    ),
+    (
+        "f 3 ff",
+        Op::F {
+            space: 0,
+            gfn: 3,
+            byte: 255,
+        },
+    ),
     (
         "f 1048576 0a",
         Op::F {
+            space: 0,
             gfn: 1048576,
             byte: 10,
         },
@@ -415,18 +443,50 @@ const READ_ROWS: &[(&str, Op)] = &[
     (
         "f 4503599627370495 a0",
         Op::F {
+            space: 0,
             gfn: 4503599627370495,
             byte: 160,
         },
     ),
-    ("r 4096", Op::R { addr: 4096 }),
-    ("r 4097", Op::R { addr: 4097 }),
-    ("r 8184", Op::R { addr: 8184 }),
-    ("r 16376", Op::R { addr: 16376 }),
-    ("r 4294971384", Op::R { addr: 4294971384 }),
+    (
+        "r 4096",
+        Op::R {
+            space: 0,
+            addr: 4096,
+        },
+    ),
+    (
+        "r 4097",
+        Op::R {
+            space: 0,
+            addr: 4097,
+        },
+    ),
+    (
+        "r 8184",
+        Op::R {
+            space: 0,
+            addr: 8184,
+        },
+    ),
+    (
+        "r 16376",
+        Op::R {
+            space: 0,
+            addr: 16376,
+        },
+    ),
+    (
+        "r 4294971384",
+        Op::R {
+            space: 0,
+            addr: 4294971384,
+        },
+    ),
     (
         "r 18446744073709551608",
         Op::R {
+            space: 0,
             addr: 18446744073709551608,
         },
     ),
@@ -437,11 +497,24 @@ const READ_ROWS: &[(&str, Op)] = &[
             n: 18446744073709551615,
         },
     ),
-    ("s 4096", Op::S { addr: 4096 }),
-    ("s 8184", Op::S { addr: 8184 }),
+    (
+        "s 4096",
+        Op::S {
+            space: 0,
+            addr: 4096,
+        },
+    ),
+    (
+        "s 8184",
+        Op::S {
+            space: 0,
+            addr: 8184,
+        },
+    ),
     (
         "s 18446744073709551608",
         Op::S {
+            space: 0,
             addr: 18446744073709551608,
         },
     ),

@@ -95,7 +95,7 @@ fn refuses_too_many_pages(rt: HostRuntime) -> Result<(), Fail> {
 const FIRST_ROWS: &[(&str, FileFault)] = &[
     ("", FileFault::Magic { no: 1 }),
     (" \t\n# nothing\n", FileFault::Magic { no: 1 }),
-    ("\n\ndirtyguest 2\n", FileFault::Magic { no: 3 }),
+    ("\n\ndirtyguest 3\n", FileFault::Magic { no: 3 }),
     ("dirtyguest 1", FileFault::Line { no: 2 }),
     (
         "dirtyguest 1\r\n# A\nring +8\n",
@@ -155,15 +155,15 @@ fn finds_pages_and_places(rt: HostRuntime) -> Result<(), Fail> {
     let text = format!(in rt.alloc(); "{SETTINGS}slot 3 10 4\nslot 1 0 2\nvcpu\nhalt\n")?;
     let guest = read_guest(rt.alloc(), text.as_bytes())?;
     assert_eq!(rt; page_count(&guest), 6);
-    assert_eq!(rt; page_of_frame(&guest, 11), Some(1));
-    assert_eq!(rt; page_of_address(&guest, 4096), Some(5));
+    assert_eq!(rt; page_of_frame(&guest, 0, 11), Some(1));
+    assert_eq!(rt; page_of_address(&guest, 0, 4096), Some(5));
     let slots = Slots::new(rt.alloc(), &guest.slots)?;
-    assert_eq!(rt; slots.page_of(8191), Some(5));
-    assert_eq!(rt; slots.page_of(8192), None);
-    assert_eq!(rt; slots.page_of_frame(13), Some(3));
+    assert_eq!(rt; slots.page_of(0, 8191), Some(5));
+    assert_eq!(rt; slots.page_of(0, 8192), None);
+    assert_eq!(rt; slots.page_of_frame(0, 13), Some(3));
     assert_eq!(rt; slots.page_at(1, 1), Some(5));
     assert_eq!(rt; slots.page_at(3, 4), None);
-    if let Some(page) = slots.page_of(4096) {
+    if let Some(page) = slots.page_of(0, 4096) {
         assert_eq!(rt; slots.place(page), Entry { slot: 1, offset: 1 });
     }
     Ok(())

@@ -7,7 +7,7 @@ use Rattle.std.proofs.lemmas.Grind.{flat_map-append}
 use Rattle.std.specs.Prelude.{codes}
 use Rattle.dr_types.specs.declared.guest.Guest.{Guest}
 use Rattle.dr_types.specs.GuestText.{settings_lines, slot_line, script_lines, guest_text}
-use Rattle.dr_types.specs.Lines.{line_text, lines_text}
+use Rattle.dr_types.specs.Lines.{line_text, lines_text, named}
 
 pub lines_text-append : (lines more : List (List (List ℕ))) → lines_text (lines ++ more) ≡ lines_text lines ++ lines_text more
 lines_text-append lines more = flat_map-append line_text lines more
@@ -36,10 +36,10 @@ more_line {X = X} line xs i x start out next lt is so_far grows =
     ∙ ap (λ (text : List ℕ). start ++ text) (sym whole)
 
 -- the four parts of a guest's text
-pub whole_text : (guest : Guest) (first settings slots scripts : List ℕ) → first ≡ [] ++ line_text (codes "dirtyguest" ∷ codes "1" ∷ []) → settings ≡ first ++ lines_text (settings_lines guest.settings)
+pub whole_text : (guest : Guest) (first settings slots scripts : List ℕ) → first ≡ [] ++ line_text (named (codes "dirtyguest") guest.version) → settings ≡ first ++ lines_text (settings_lines guest.settings)
     → slots ≡ settings ++ lines_text (map slot_line guest.slots) → scripts ≡ slots ++ lines_text (flat_map script_lines guest.scripts) → scripts ≡ guest_text guest
 whole_text guest first settings slots scripts a b c d =
-    let magic : List (List ℕ) = codes "dirtyguest" ∷ codes "1" ∷ [] in
+    let magic : List (List ℕ) = named (codes "dirtyguest") guest.version in
     let s = settings_lines guest.settings in
     let m = map slot_line guest.slots in
     let f = flat_map script_lines guest.scripts in

@@ -5,8 +5,9 @@ ghost use Rattle.std.specs.List.{flat_map};
 ghost use Rattle.dr_types.specs.GuestText.{settings_lines, slot_line, op_line, item_lines};
 ghost use Rattle.dr_types.specs.GuestText.{script_lines, guest_text};
 ghost use Rattle.dr_types.specs.Lines.{named, line_text, lines_text, low_bytes};
+ghost use Rattle.dr_types.specs.Spaces.{space_prefix, spaced_word};
 
-use dr_types::{Guest, Item, Memory, Op, Script, Settings, SlotRow, Text, hex_of};
+use dr_types::{Guest, Item, Memory, Op, Script, Settings, SlotRow, Text, hex_of, space_prefix};
 use std::alloc::Global;
 
 /// A line of a word and a number.
@@ -25,33 +26,45 @@ fn put_word(alloc: Global, out: &mut Text, word: &str) -> Result<(), Memory>
     out.push_str(&format!(in alloc; "{word}\n")?)
 }
 
-/// A line of a word, a place and bytes in hex.
+/// A line of a word and a place in an address space.
+#[tactic(auto, unfolding(dr_types::specs::Lines::line_text))]
+fn put_place(
+    alloc: Global,
+    out: &mut Text,
+    name: &str,
+    space: u32,
+    place: u64,
+) -> Result<(), Memory>
+    ensures { OnOk result (out.new ≡
+        out.old ++ line_text (name.now ∷ spaced_word space place ∷ [])) }
+{
+    let prefix = space_prefix(space);
+    out.push_str(&format!(in alloc; "{name} {prefix}{place}\n")?)
+}
+
+/// A line of a word, a place in an address space, and bytes in hex.
 #[tactic(auto, unfolding(dr_types::specs::Lines::line_text))]
 fn put_store(
     alloc: Global,
     out: &mut Text,
     name: &str,
+    space: u32,
     place: u64,
     bytes: &str,
 ) -> Result<(), Memory>
     ensures { OnOk result (out.new ≡
-        out.old ++ line_text (name.now ∷ decimal place ∷ bytes.now ∷ [])) }
+        out.old ++ line_text (name.now ∷ spaced_word space place ∷ bytes.now ∷ [])) }
 {
-    out.push_str(&format!(in alloc; "{name} {place} {bytes}\n")?)
+    let prefix = space_prefix(space);
+    out.push_str(&format!(in alloc; "{name} {prefix}{place} {bytes}\n")?)
 }
 
 #[tactic(auto, unfolding(dr_types::specs::Lines::line_text))]
 fn put_slot(alloc: Global, out: &mut Text, row: &SlotRow) -> Result<(), Memory>
     ensures { OnOk result (out.new ≡ out.old ++ line_text (slot_line row.now)) }
 {
-    out.push_str(&format!(in alloc; "slot {} {} {}\n", row.id, row.base, row.pages)?)
-}
-
-#[tactic(auto, unfolding(dr_types::specs::Lines::line_text))]
-fn put_magic(out: &mut Text) -> Result<(), Memory>
-    ensures { OnOk result (out.new ≡ out.old ++ line_text (codes "dirtyguest" ∷ codes "1" ∷ [])) }
-{
-    out.push_str("dirtyguest 1\n")
+    let prefix = space_prefix(row.space);
+    out.push_str(&format!(in alloc; "slot {prefix}{} {} {}\n", row.id, row.base, row.pages)?)
 }
 
 fn put_settings(alloc: Global, out: &mut Text, settings: &Settings) -> Result<(), Memory>
@@ -71,17 +84,22 @@ fn put_op(alloc: Global, out: &mut Text, op: &Op) -> Result<(), Memory>
     ensures { OnOk result (out.new ≡ out.old ++ line_text (op_line op.now)) }
 {
     match *op {
-        Op::W { addr, len, value } => {
+        Op::W {
+            space,
+            addr,
+            len,
+            value,
+        } => {
             let hex = hex_of(alloc, len, value)?;
-            put_store(alloc, out, "w", addr, &hex)
+            put_store(alloc, out, "w", space, addr, &hex)
         }
-        Op::F { gfn, byte } => {
+        Op::F { space, gfn, byte } => {
             let hex = hex::encode(alloc, &[byte])?;
-            put_store(alloc, out, "f", gfn, &hex)
+            put_store(alloc, out, "f", space, gfn, &hex)
         }
-        Op::R { addr } => put_named(alloc, out, "r", addr),
+        Op::R { space, addr } => put_place(alloc, out, "r", space, addr),
         Op::A { n } => put_named(alloc, out, "a", n),
-        Op::S { addr } => put_named(alloc, out, "s", addr),
+        Op::S { space, addr } => put_place(alloc, out, "s", space, addr),
         Op::Nap { us } => put_named(alloc, out, "nap", u64::from(us)),
         Op::Halt => put_word(alloc, out, "halt"),
     }
@@ -153,7 +171,7 @@ pub fn write_guest(alloc: Global, guest: &Guest) -> Result<Text, Memory>
     ensures { IfOk result (λ text. text ≡ guest_text guest.now) }
 {
     let mut out = Text::new(alloc);
-    put_magic(&mut out)?;
+    put_named(alloc, &mut out, "dirtyguest", u64::from(guest.version))?;
     put_settings(alloc, &mut out, &guest.settings)?;
     put_slots(alloc, &mut out, guest.slots.as_slice())?;
     put_scripts(alloc, &mut out, guest.scripts.as_slice())?;

@@ -25,9 +25,9 @@ length_either false xs ys p q = q
 -- a page has 4,096 bytes
 pub whole_page : (guest : Guest) (page : ℕ) (past : List Event) → length (page_bytes guest page past) ≡ 4096
 whole_page guest page [] = length_filled 0
-whole_page guest page (Write v i address len value ∷ past) =
+whole_page guest page (Write v i space address len value ∷ past) =
     let rest = whole_page guest page past in
-    length_either (is_number page (page_of_address guest address)) (overwritten (page_bytes guest page past) _ (low_bytes len value)) (page_bytes guest page past)
+    length_either (is_number page (page_of_address guest space address)) (overwritten (page_bytes guest page past) _ (low_bytes len value)) (page_bytes guest page past)
     (length_overwritten (page_bytes guest page past) _ (low_bytes len value) ∙ rest) rest
 whole_page guest page (Paint v i q byte ∷ past) =
     length_either _ (filled byte) (page_bytes guest page past) (length_filled byte) (whole_page guest page past)

@@ -11,6 +11,7 @@ use Rattle.dr_history.specs.declared.event.Event.TheVariants.{Stopped, Switched}
 use Rattle.dr_types.specs.declared.guest.Why.{Why}
 use Rattle.dr_types.specs.declared.guest.Why.TheVariants as reason
 use Rattle.dr_types.specs.Lines.{line_text, low_bytes}
+use Rattle.dr_types.specs.Spaces.{spaced_word}
 
 -- the word for why a vCPU left the guest
 abbrev pub why_word : Why → List ℕ
@@ -23,10 +24,11 @@ why_word reason.Yield = codes "yield"
 -- the words of an event's line
 abbrev pub event_words : Event → List (List ℕ)
 event_words (Start at) = codes "start" ∷ decimal at ∷ []
-event_words (Read v i address value) =
-    codes "r" ∷ decimal v ∷ decimal i ∷ decimal address ∷ decimal value ∷ []
-event_words (Write v i address len value) =
-    codes "w" ∷ decimal v ∷ decimal i ∷ decimal address ∷ encode_lower (low_bytes len value) ∷ []
+event_words (Read v i space address value) =
+    codes "r" ∷ decimal v ∷ decimal i ∷ spaced_word space address ∷ decimal value ∷ []
+event_words (Write v i space address len value) =
+    codes "w" ∷ decimal v ∷ decimal i ∷ spaced_word space address
+    ∷ encode_lower (low_bytes len value) ∷ []
 event_words (Paint v i page byte) =
     codes "f" ∷ decimal v ∷ decimal i ∷ decimal page ∷ encode_lower (byte ∷ []) ∷ []
 event_words (Local v i) = codes "l" ∷ decimal v ∷ decimal i ∷ []
@@ -54,14 +56,15 @@ abbrev pub text : List Event → List ℕ
 text [] = []
 text (e ∷ earlier) = text earlier ++ event_line e
 
--- the event has a line of its own: each number is one of its type, and a Write has one to eight
--- bytes that hold its value
+-- the event has a line of its own: each number is one of its type, a space is 0 or 1, and a Write
+-- has one to eight bytes that hold its value
 abbrev pub FitsLine : Event → Type 0
 FitsLine (Start at) = at < 2 ^ 64
-FitsLine (Read v i address value) =
-    (v < 2 ^ 32) × (i < 2 ^ 32) × (address < 2 ^ 64) × (value < 2 ^ 64)
-FitsLine (Write v i address len value) =
-    (v < 2 ^ 32) × (i < 2 ^ 32) × (address < 2 ^ 64) × (1 ≤ len) × (len ≤ 8) × (value < 256 ^ len)
+FitsLine (Read v i space address value) =
+    (v < 2 ^ 32) × (i < 2 ^ 32) × (space ≤ 1) × (address < 2 ^ 64) × (value < 2 ^ 64)
+FitsLine (Write v i space address len value) =
+    (v < 2 ^ 32) × (i < 2 ^ 32) × (space ≤ 1) × (address < 2 ^ 64)
+    × (1 ≤ len) × (len ≤ 8) × (value < 256 ^ len)
 FitsLine (Paint v i page byte) = (v < 2 ^ 32) × (i < 2 ^ 32) × (page < 2 ^ 32) × (byte < 256)
 FitsLine (Local v i) = (v < 2 ^ 32) × (i < 2 ^ 32)
 FitsLine (Halted v i) = (v < 2 ^ 32) × (i < 2 ^ 32)

@@ -7,17 +7,20 @@ pub enum Event {
     Start {
         at: u64,
     },
-    /// vCPU v executes its op number i: it loads the eight bytes at an address.
+    /// vCPU v executes its op number i: it loads the eight bytes at an address of a space.
     Read {
         v: u32,
         i: u32,
+        space: u32,
         addr: u64,
         value: u64,
     },
-    /// vCPU v stores the low `len` bytes of a value at an address, least first (ops `w` and `s`).
+    /// vCPU v stores the low `len` bytes of a value at an address of a space, least first (ops `w`
+    /// and `s`).
     Write {
         v: u32,
         i: u32,
+        space: u32,
         addr: u64,
         len: u32,
         value: u64,

@@ -5,7 +5,7 @@ ghost use Rattle.std.specs.Fmt.{decimal};
 ghost use Rattle.dr_history.specs.Lines.{event_line, why_word, text};
 
 use crate::event::Event;
-use dr_types::{Memory, Why, hex_of};
+use dr_types::{Memory, Why, hex_of, space_prefix};
 use std::alloc::Global;
 use std::fmt::Write;
 
@@ -33,6 +33,24 @@ fn push_pages(text: &mut String, pages: &[u32]) -> Result<(), Memory>
     Ok(())
 }
 
+/// Adds a Read's line.
+#[tactic(auto, unfolding(crate::specs::Lines::event_line, dr_types::specs::Lines::line_text))]
+fn push_read(
+    text: &mut String,
+    v: u32,
+    i: u32,
+    space: u32,
+    addr: u64,
+    value: u64,
+) -> Result<(), Memory>
+    ensures { OnOk result (string_bytes text.new
+        ≡ string_bytes text.old ++ event_line (Event.Read v i space addr value)) }
+{
+    let prefix = space_prefix(space);
+    write!(text, "r {v} {i} {prefix}{addr} {value}\n")?;
+    Ok(())
+}
+
 /// Adds a Write's line.
 #[tactic(auto, unfolding(crate::specs::Lines::event_line, dr_types::specs::Lines::line_text))]
 fn push_write(
@@ -40,15 +58,17 @@ fn push_write(
     text: &mut String,
     v: u32,
     i: u32,
+    space: u32,
     addr: u64,
     len: u32,
     value: u64,
 ) -> Result<(), Memory>
     ensures { OnOk result (string_bytes text.new
-        ≡ string_bytes text.old ++ event_line (Event.Write v i addr len value)) }
+        ≡ string_bytes text.old ++ event_line (Event.Write v i space addr len value)) }
 {
     let hex = hex_of(alloc, len, value)?;
-    write!(text, "w {v} {i} {addr} {hex}\n")?;
+    let prefix = space_prefix(space);
+    write!(text, "w {v} {i} {prefix}{addr} {hex}\n")?;
     Ok(())
 }
 
@@ -98,14 +118,21 @@ pub fn push_event(alloc: Global, text: &mut String, e: &Event) -> Result<(), Mem
 {
     match e {
         Event::Start { at } => write!(text, "start {at}\n")?,
-        Event::Read { v, i, addr, value } => write!(text, "r {v} {i} {addr} {value}\n")?,
+        Event::Read {
+            v,
+            i,
+            space,
+            addr,
+            value,
+        } => push_read(text, *v, *i, *space, *addr, *value)?,
         Event::Write {
             v,
             i,
+            space,
             addr,
             len,
             value,
-        } => push_write(alloc, text, *v, *i, *addr, *len, *value)?,
+        } => push_write(alloc, text, *v, *i, *space, *addr, *len, *value)?,
         Event::Paint { v, i, page, byte } => push_paint(alloc, text, *v, *i, *page, *byte)?,
         Event::Local { v, i } => write!(text, "l {v} {i}\n")?,
         Event::Halted { v, i } => write!(text, "h {v} {i}\n")?,

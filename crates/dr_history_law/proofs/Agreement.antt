@@ -55,9 +55,9 @@ copied_owed false u d c w f h = f h
 pub uncopied_owed : (guest : Guest) (past : List Event) (page : ℕ) → IsLegalSoFar guest past → has_uncopied_write guest page past ≡ true → is_owed page past ≡ true
 uncopied_owed guest [] page legal u = refl
 uncopied_owed guest (Start at ∷ past) page legal u = refl
-uncopied_owed guest (Write v i address len value ∷ past) page legal u =
-    either (is_number page (page_of_address guest address)) (has_uncopied_write guest page past) (is_owed page past ≡ true)
-    (λ w. written_owed page past (λ s. cached_page guest past v page legal.1 (write_cached guest past v i address len value page legal.0 w s)))
+uncopied_owed guest (Write v i space address len value ∷ past) page legal u =
+    either (is_number page (page_of_address guest space address)) (has_uncopied_write guest page past) (is_owed page past ≡ true)
+    (λ w. written_owed page past (λ s. cached_page guest past v page legal.1 (write_cached guest past v i space address len value page legal.0 w s)))
     (uncopied_owed guest past page legal.1) u
 uncopied_owed guest (Paint v i q byte ∷ past) page legal u =
     either (q == page) (has_uncopied_write guest page past) (is_owed page past ≡ true)
@@ -84,8 +84,8 @@ copied_last false u x y f h = f h
 -- without a write since its last Copied the page is the same in both
 pub uncopied_differs : (guest : Guest) (past : List Event) (page : ℕ) → has_uncopied_write guest page past ≡ false → Agree guest page past
 uncopied_differs guest [] page u = refl
-uncopied_differs guest (Write v i address len value ∷ past) page u =
-    unwritten (is_number page (page_of_address guest address)) (has_uncopied_write guest page past) _ _ _ (uncopied_differs guest past page) u
+uncopied_differs guest (Write v i space address len value ∷ past) page u =
+    unwritten (is_number page (page_of_address guest space address)) (has_uncopied_write guest page past) _ _ _ (uncopied_differs guest past page) u
 uncopied_differs guest (Paint v i q byte ∷ past) page u =
     unwritten (q == page) (has_uncopied_write guest page past) _ _ _ (uncopied_differs guest past page) u
 uncopied_differs guest (Copied r q ∷ past) page u =

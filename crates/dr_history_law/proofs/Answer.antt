@@ -5,7 +5,7 @@ use Rattle.std.specs.List.{list_any}
 use Rattle.std.proofs.lemmas.Bool.{eqb-true, and_parts, or_from, true≢false, false≢true, ltb-true, leb-true}
 use Rattle.dr_types.specs.declared.guest.Guest.{Guest}
 use Rattle.dr_types.specs.declared.guest.SlotRow.{SlotRow}
-use Rattle.dr_types.specs.Pages.{page_count, page_from, page_of_address, pages_of_slots}
+use Rattle.dr_types.specs.Pages.{has_frame, page_count, page_from, page_of_address, pages_of_slots}
 use Rattle.dr_history.specs.declared.event.Event.{Event}
 use Rattle.dr_history.specs.declared.event.Event.TheVariants.{Start, Write, Paint, Reset, Flushed, Asked, Synced, Copied}
 use Rattle.dr_history.specs.Lookback.{count, since, before, is_number}
@@ -114,16 +114,16 @@ from_case false n page first rest size o f g h =
     let lt : page < (first + size) + rest = g h in
     omega arith
 
-pub page_from_below : (first : ℕ) (rows : List SlotRow) (frame page : ℕ) → is_number page (page_from first rows frame) ≡ true → page < first + pages_of_slots rows
-page_from_below first [] frame page h = absurd (false≢true h)
-page_from_below first (row ∷ rows) frame page h =
-    from_case (nat_le row.base frame && nat_lt frame (row.base + row.pages)) (first + (frame - row.base)) page first (pages_of_slots rows) row.pages (page_from (first + row.pages) rows frame)
+pub page_from_below : (first : ℕ) (rows : List SlotRow) (space frame page : ℕ) → is_number page (page_from first rows space frame) ≡ true → page < first + pages_of_slots rows
+page_from_below first [] space frame page h = absurd (false≢true h)
+page_from_below first (row ∷ rows) space frame page h =
+    from_case (has_frame row space frame) (first + (frame - row.base)) page first (pages_of_slots rows) row.pages (page_from (first + row.pages) rows space frame)
     (λ t.
-    let tests = and_parts (nat_le row.base frame) (nat_lt frame (row.base + row.pages)) t in
+    let tests = and_parts (nat_le row.base frame) (nat_lt frame (row.base + row.pages)) (and_parts (row.space == space) _ t).1 in
     let le : row.base ≤ frame = leb-true row.base frame tests.0 in
     let lt : frame < row.base + row.pages = ltb-true frame (row.base + row.pages) tests.1 in
     omega arith)
-    (page_from_below (first + row.pages) rows frame page) h
+    (page_from_below (first + row.pages) rows space frame page) h
 
 since_copy : (same u : Bool) (G : Type 0) → (u ≡ true → G) → cond same false u ≡ true → G
 since_copy true u G f h = absurd (false≢true h)
@@ -131,9 +131,9 @@ since_copy false u G f h = f h
 
 pub uncopied_below : (guest : Guest) (past : List Event) (page : ℕ) → IsLegalSoFar guest past → has_uncopied_write guest page past ≡ true → page < page_count guest
 uncopied_below guest [] page legal u = absurd (false≢true u)
-uncopied_below guest (Write v i address len value ∷ past) page legal u =
-    either (is_number page (page_of_address guest address)) (has_uncopied_write guest page past) (page < page_count guest)
-    (λ w. let lt : page < 0 + pages_of_slots guest.slots = page_from_below 0 guest.slots (address / 4096) page w in omega arith)
+uncopied_below guest (Write v i space address len value ∷ past) page legal u =
+    either (is_number page (page_of_address guest space address)) (has_uncopied_write guest page past) (page < page_count guest)
+    (λ w. let lt : page < 0 + pages_of_slots guest.slots = page_from_below 0 guest.slots space (address / 4096) page w in omega arith)
     (uncopied_below guest past page legal.1) u
 uncopied_below guest (Paint v i q byte ∷ past) page legal u =
     either (q == page) (has_uncopied_write guest page past) (page < page_count guest)

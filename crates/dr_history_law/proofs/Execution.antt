@@ -30,13 +30,13 @@ one_number false i n numbers f h = h
 
 pub executes_in_order : (guest : Guest) (past : List Event) (v : ℕ) → IsLegalSoFar guest past → op_numbers v past ≡ below (ops v past)
 executes_in_order guest [] v legal = refl
-executes_in_order guest (Read w i address value ∷ past) v legal =
+executes_in_order guest (Read w i space address value ∷ past) v legal =
     one_number (w == v) i (ops v past) (op_numbers v past)
-    (next_number past w v i (is_load (operation guest w i) address) (op_next guest past (Read w i address value) legal.0))
+    (next_number past w v i (is_load (operation guest w i) space address) (op_next guest past (Read w i space address value) legal.0))
     (executes_in_order guest past v legal.1)
-executes_in_order guest (Write w i address len value ∷ past) v legal =
+executes_in_order guest (Write w i space address len value ∷ past) v legal =
     one_number (w == v) i (ops v past) (op_numbers v past)
-    (next_number past w v i (is_store (operation guest w i) (acc guest w past) address len value) (op_next guest past (Write w i address len value) legal.0))
+    (next_number past w v i (is_store (operation guest w i) (acc guest w past) space address len value) (op_next guest past (Write w i space address len value) legal.0))
     (executes_in_order guest past v legal.1)
 executes_in_order guest (Paint w i page byte ∷ past) v legal =
     one_number (w == v) i (ops v past) (op_numbers v past)
@@ -57,35 +57,44 @@ number_at n None h = absurd (false≢true h)
 number_at n (Some m) h = ap (λ (k : ℕ). Some k) (eqb-true m n h)
 
 -- what each test of an operation says
-load_at : (o : Option Op) (address : ℕ) → is_load o address ≡ true → o ≡ Some (op.R address)
-load_at (Some (op.R a)) address h = ap (λ (k : ℕ). Some (op.R k)) (eqb-true a address h)
-load_at o address h = absurd (false≢true h)
+load_at : (o : Option Op) (space address : ℕ) → is_load o space address ≡ true → o ≡ Some (op.R space address)
+load_at (Some (op.R s a)) space address h =
+    let same = and_parts (s == space) (a == address) h in
+    let one : s ≡ space = eqb-true s space same.0 in
+    let place : a ≡ address = eqb-true a address same.1 in
+    cc
+load_at o space address h = absurd (false≢true h)
 
-abbrev Stores : Option Op → ℕ → ℕ → ℕ → ℕ → Type 0
-Stores o register address len value =
-    (o ≡ Some (op.W address len value)) ⊎ ((o ≡ Some (op.S address)) × (len ≡ 8) × (value ≡ register))
+abbrev Stores : Option Op → ℕ → ℕ → ℕ → ℕ → ℕ → Type 0
+Stores o register space address len value =
+    (o ≡ Some (op.W space address len value)) ⊎ ((o ≡ Some (op.S space address)) × (len ≡ 8) × (value ≡ register))
 
-store_at : (o : Option Op) (register address len value : ℕ) → is_store o register address len value ≡ true → Stores o register address len value
-store_at (Some (op.W a l x)) register address len value h =
-    let outer = and_parts (a == address && l == len) (x == value) h in
-    let inner = and_parts (a == address) (l == len) outer.0 in
-    let place : a ≡ address = eqb-true a address inner.0 in
+store_at : (o : Option Op) (register space address len value : ℕ) → is_store o register space address len value ≡ true → Stores o register space address len value
+store_at (Some (op.W s a l x)) register space address len value h =
+    let outer = and_parts (s == space && a == address && l == len) (x == value) h in
+    let inner = and_parts (s == space && a == address) (l == len) outer.0 in
+    let first = and_parts (s == space) (a == address) inner.0 in
+    let one : s ≡ space = eqb-true s space first.0 in
+    let place : a ≡ address = eqb-true a address first.1 in
     let size : l ≡ len = eqb-true l len inner.1 in
     let stored : x ≡ value = eqb-true x value outer.1 in
     inl (cc)
-store_at (Some (op.S a)) register address len value h =
-    let outer = and_parts (a == address && 8 == len) (register == value) h in
-    let inner = and_parts (a == address) (8 == len) outer.0 in
-    inr (ap (λ (k : ℕ). Some (op.S k)) (eqb-true a address inner.0), sym (eqb-true 8 len inner.1), sym (eqb-true register value outer.1))
-store_at o register address len value h = absurd (false≢true h)
+store_at (Some (op.S s a)) register space address len value h =
+    let outer = and_parts (s == space && a == address && 8 == len) (register == value) h in
+    let inner = and_parts (s == space && a == address) (8 == len) outer.0 in
+    let first = and_parts (s == space) (a == address) inner.0 in
+    let one : s ≡ space = eqb-true s space first.0 in
+    let place : a ≡ address = eqb-true a address first.1 in
+    inr (cc, sym (eqb-true 8 len inner.1), sym (eqb-true register value outer.1))
+store_at o register space address len value h = absurd (false≢true h)
 
 abbrev Fills : Guest → Option Op → ℕ → ℕ → Type 0
-Fills guest o page byte = (frame : ℕ) × (o ≡ Some (op.F frame byte)) × (page_of_frame guest.slots frame ≡ Some page)
+Fills guest o page byte = (space frame : ℕ) × (o ≡ Some (op.F space frame byte)) × (page_of_frame guest.slots space frame ≡ Some page)
 
 fill_at : (guest : Guest) (o : Option Op) (page byte : ℕ) → is_fill guest o page byte ≡ true → Fills guest o page byte
-fill_at guest (Some (op.F frame b)) page byte h =
-    let parts = and_parts (is_number page (page_of_frame guest.slots frame)) (b == byte) h in
-    (frame, ap (λ (k : ℕ). Some (op.F frame k)) (eqb-true b byte parts.1), number_at page (page_of_frame guest.slots frame) parts.0)
+fill_at guest (Some (op.F space frame b)) page byte h =
+    let parts = and_parts (is_number page (page_of_frame guest.slots space frame)) (b == byte) h in
+    (space, frame, ap (λ (k : ℕ). Some (op.F space frame k)) (eqb-true b byte parts.1), number_at page (page_of_frame guest.slots space frame) parts.0)
 fill_at guest o page byte h = absurd (false≢true h)
 
 abbrev IsLocal : Option Op → Type 0
@@ -105,10 +114,10 @@ value_at : (guest : Guest) (past : List Event) (at : ℕ) (place : Option ℕ) (
 value_at guest past at None value h = absurd (false≢true h)
 value_at guest past at (Some page) value h = (page, refl, eqb-true value (loaded (page_bytes guest page past) at) h)
 
-read_value : (guest : Guest) (past : List Event) (v i address value : ℕ) → broken guest past (Read v i address value) ≡ None → IsInMemory guest past address value
+read_value : (guest : Guest) (past : List Event) (v i space address value : ℕ) → broken guest past (Read v i space address value) ≡ None → IsInMemory guest past space address value
 unfolding reads_memory
-read_value guest past v i address value h =
-    value_at guest past (address % 4096) (page_of_address guest address) value (keeps guest past (Read v i address value) h).reads_memory_holds
+read_value guest past v i space address value h =
+    value_at guest past (address % 4096) (page_of_address guest space address) value (keeps guest past (Read v i space address value) h).reads_memory_holds
 
 -- an operation's number and its test
 at_next : (past : List Event) (w i : ℕ) (t : Bool) → (i == ops w past && t) ≡ true → (i ≡ ops w past) × (t ≡ true)
@@ -121,14 +130,14 @@ for_vcpu : (guest : Guest) (past : List Event) (w v : ℕ) (e : Event) → Some 
 for_vcpu guest past w v e h p = let same : w ≡ v = cc in subst (λ (u : ℕ). Performs guest past u e) same p
 
 performs : (guest : Guest) (past : List Event) (v : ℕ) (e : Event) → broken guest past e ≡ None → vcpu_of_op e ≡ Some v → Performs guest past v e
-performs guest past v (Read w i address value) h o =
-    let next = at_next past w i (is_load (operation guest w i) address) (op_next guest past (Read w i address value) h) in
-    for_vcpu guest past w v (Read w i address value) o
-    (next.0, load_at (operation guest w i) address next.1, read_value guest past w i address value h)
-performs guest past v (Write w i address len value) h o =
-    let next = at_next past w i (is_store (operation guest w i) (acc guest w past) address len value) (op_next guest past (Write w i address len value) h) in
-    for_vcpu guest past w v (Write w i address len value) o
-    (next.0, store_at (operation guest w i) (acc guest w past) address len value next.1)
+performs guest past v (Read w i space address value) h o =
+    let next = at_next past w i (is_load (operation guest w i) space address) (op_next guest past (Read w i space address value) h) in
+    for_vcpu guest past w v (Read w i space address value) o
+    (next.0, load_at (operation guest w i) space address next.1, read_value guest past w i space address value h)
+performs guest past v (Write w i space address len value) h o =
+    let next = at_next past w i (is_store (operation guest w i) (acc guest w past) space address len value) (op_next guest past (Write w i space address len value) h) in
+    for_vcpu guest past w v (Write w i space address len value) o
+    (next.0, store_at (operation guest w i) (acc guest w past) space address len value next.1)
 performs guest past v (Paint w i page byte) h o =
     let next = at_next past w i (is_fill guest (operation guest w i) page byte) (op_next guest past (Paint w i page byte) h) in
     for_vcpu guest past w v (Paint w i page byte) o

@@ -112,7 +112,7 @@ unfolding write_follows
 opened_written guest past v k page e h = (keeps guest (Opened v k page ∷ past) e h).write_follows_holds
 
 write_runs : (guest : Guest) (past : List Event) (v page : ℕ) (e : Event) → broken guest past e ≡ None → writes_page guest v page e ≡ true → stopped past ≡ false
-write_runs guest past v page (Write w i address len value) h t = (op_facts guest past (Write w i address len value) w h refl).running
+write_runs guest past v page (Write w i space address len value) h t = (op_facts guest past (Write w i space address len value) w h refl).running
 write_runs guest past v page (Paint w i q byte) h t = (op_facts guest past (Paint w i q byte) w h refl).running
 write_runs guest past v page e h t = absurd (false≢true t)
 
@@ -134,10 +134,10 @@ cached_at v page past None c n = absurd (false≢true n)
 cached_at v page past (Some q) c n = subst (λ (p : ℕ). cached v p past ≡ true) (eqb-true q page n) c
 
 -- after Start the page of a write is cached
-pub write_cached : (guest : Guest) (past : List Event) (v i address len value page : ℕ) → broken guest past (Write v i address len value) ≡ None → is_number page (page_of_address guest address) ≡ true → started past ≡ true → cached v page past ≡ true
+pub write_cached : (guest : Guest) (past : List Event) (v i space address len value page : ℕ) → broken guest past (Write v i space address len value) ≡ None → is_number page (page_of_address guest space address) ≡ true → started past ≡ true → cached v page past ≡ true
 unfolding write_is_cached
-write_cached guest past v i address len value page h n s =
-    cached_at v page past (page_of_address guest address) (after (started past) (is_cached_for v past (page_of_address guest address)) (keeps guest past (Write v i address len value) h).write_is_cached_holds s) n
+write_cached guest past v i space address len value page h n s =
+    cached_at v page past (page_of_address guest space address) (after (started past) (is_cached_for v past (page_of_address guest space address)) (keeps guest past (Write v i space address len value) h).write_is_cached_holds s) n
 
 -- what holds where a page is painted
 pub record Paints (guest : Guest) (past : List Event) (v page : ℕ) : Type 0 where

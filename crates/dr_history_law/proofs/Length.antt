@@ -14,13 +14,13 @@ use Rattle.dr_history_law.specs.Length.{script_length}
 use Rattle.dr_history_law.proofs.Kept.{op_next}
 use Rattle.dr_history_law.proofs.Outstanding.{one_more}
 
-load_some : (o : Option Op) (address : ℕ) → is_load o address ≡ true → is_some o ≡ true
-load_some None address h = absurd (false≢true h)
-load_some (Some op) address h = refl
+load_some : (o : Option Op) (space address : ℕ) → is_load o space address ≡ true → is_some o ≡ true
+load_some None space address h = absurd (false≢true h)
+load_some (Some op) space address h = refl
 
-store_some : (o : Option Op) (register address len value : ℕ) → is_store o register address len value ≡ true → is_some o ≡ true
-store_some None register address len value h = absurd (false≢true h)
-store_some (Some op) register address len value h = refl
+store_some : (o : Option Op) (register space address len value : ℕ) → is_store o register space address len value ≡ true → is_some o ≡ true
+store_some None register space address len value h = absurd (false≢true h)
+store_some (Some op) register space address len value h = refl
 
 fill_some : (guest : Guest) (o : Option Op) (page byte : ℕ) → is_fill guest o page byte ≡ true → is_some o ≡ true
 fill_some guest None page byte h = absurd (false≢true h)
@@ -51,13 +51,13 @@ next_within guest past w v i t h f s =
 
 pub stays_in_script : (guest : Guest) (past : List Event) (v : ℕ) → IsLegalSoFar guest past → ops v past ≤ script_length guest v
 stays_in_script guest [] v legal = omega arith
-stays_in_script guest (Read w i address value ∷ past) v legal =
+stays_in_script guest (Read w i space address value ∷ past) v legal =
     one_more (w == v) (ops v past) (script_length guest v)
-    (next_within guest past w v i (is_load (operation guest w i) address) (op_next guest past (Read w i address value) legal.0) (load_some (operation guest w i) address))
+    (next_within guest past w v i (is_load (operation guest w i) space address) (op_next guest past (Read w i space address value) legal.0) (load_some (operation guest w i) space address))
     (stays_in_script guest past v legal.1)
-stays_in_script guest (Write w i address len value ∷ past) v legal =
+stays_in_script guest (Write w i space address len value ∷ past) v legal =
     one_more (w == v) (ops v past) (script_length guest v)
-    (next_within guest past w v i (is_store (operation guest w i) (acc guest w past) address len value) (op_next guest past (Write w i address len value) legal.0) (store_some (operation guest w i) (acc guest w past) address len value))
+    (next_within guest past w v i (is_store (operation guest w i) (acc guest w past) space address len value) (op_next guest past (Write w i space address len value) legal.0) (store_some (operation guest w i) (acc guest w past) space address len value))
     (stays_in_script guest past v legal.1)
 stays_in_script guest (Paint w i page byte ∷ past) v legal =
     one_more (w == v) (ops v past) (script_length guest v)

@@ -27,7 +27,7 @@ reset_pushed guest (e ∷ past) v legal = reset_pushed guest past v legal.1
 
 -- a write into a page is a write of its vCPU
 page_write : (guest : Guest) (v page : ℕ) (e : Event) → writes_page guest v page e ≡ true → is_write_of v e ≡ true
-page_write guest v page (Write w i address len value) h = (and_parts (w == v) _ h).0
+page_write guest v page (Write w i space address len value) h = (and_parts (w == v) _ h).0
 page_write guest v page (Paint w i q byte) h = (and_parts (w == v) (q == page) h).0
 page_write guest v page e h = absurd (false≢true h)
 
@@ -62,8 +62,8 @@ pub opened_in_order : (guest : Guest) (past : List Event) (v : ℕ) → IsLegalS
 opened_in_order guest [] v legal = omega arith
 opened_in_order guest (Opened w k q ∷ past) v legal =
     open_count (w == v) (last_opens_for v past) (opens v past) (writes v past) (unowed guest past v (Opened w k q) legal.0 refl) (opened_in_order guest past v legal.1)
-opened_in_order guest (Write w i address len value ∷ past) v legal =
-    write_count (w == v) (last_opens_for v past) (opens v past) (writes v past) (owed guest past v (Write w i address len value) legal.0) (opened_in_order guest past v legal.1)
+opened_in_order guest (Write w i space address len value ∷ past) v legal =
+    write_count (w == v) (last_opens_for v past) (opens v past) (writes v past) (owed guest past v (Write w i space address len value) legal.0) (opened_in_order guest past v legal.1)
 opened_in_order guest (Paint w i q byte ∷ past) v legal =
     write_count (w == v) (last_opens_for v past) (opens v past) (writes v past) (owed guest past v (Paint w i q byte) legal.0) (opened_in_order guest past v legal.1)
 opened_in_order guest (e ∷ past) v legal =

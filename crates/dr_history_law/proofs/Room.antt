@@ -38,9 +38,9 @@ opens_in_room : (guest : Guest) (past : List Event) (v : ℕ) → IsLegalSoFar g
 opens_in_room guest [] v legal = omega arith
 opens_in_room guest (Opened w k q ∷ past) v legal =
     open_count (w == v) (last_opens_for v past) (opens v past) (resets v past + room guest) (unowed guest past v (Opened w k q) legal.0 refl) (opens_in_room guest past v legal.1)
-opens_in_room guest (Write w i address len value ∷ past) v legal =
-    write_stays (w == v) (last_opens_for v past) (opens v past) (resets v past + room guest) (owed guest past v (Write w i address len value) legal.0)
-    (λ s o. write_room guest past v o (subst (λ (u : ℕ). Executes guest past u) (eqb-true w v s) (op_facts guest past (Write w i address len value) w legal.0 refl)))
+opens_in_room guest (Write w i space address len value ∷ past) v legal =
+    write_stays (w == v) (last_opens_for v past) (opens v past) (resets v past + room guest) (owed guest past v (Write w i space address len value) legal.0)
+    (λ s o. write_room guest past v o (subst (λ (u : ℕ). Executes guest past u) (eqb-true w v s) (op_facts guest past (Write w i space address len value) w legal.0 refl)))
     (opens_in_room guest past v legal.1)
 opens_in_room guest (Paint w i q byte ∷ past) v legal =
     write_stays (w == v) (last_opens_for v past) (opens v past) (resets v past + room guest) (owed guest past v (Paint w i q byte) legal.0)

@@ -14,7 +14,7 @@ use Rattle.dr_history_law.proofs.Listing.{map_below}
 -- no write comes after the stop
 pub no_write_follows : (guest : Guest) (past : List Event) → IsLegalSoFar guest past → NoWriteFollows past
 no_write_follows guest [] legal s = refl
-no_write_follows guest (Write v i address len value ∷ past) legal s = let f = (op_facts guest past (Write v i address len value) v legal.0 refl).running in cc
+no_write_follows guest (Write v i space address len value ∷ past) legal s = let f = (op_facts guest past (Write v i space address len value) v legal.0 refl).running in cc
 no_write_follows guest (Paint v i page byte ∷ past) legal s = let f = (op_facts guest past (Paint v i page byte) v legal.0 refl).running in cc
 no_write_follows guest (Stopped ∷ past) legal s = refl
 no_write_follows guest (e ∷ past) legal s = no_write_follows guest past legal.1 s
@@ -26,8 +26,8 @@ stopped_here (e ∷ later) earlier = stopped_here later earlier
 
 page_stays : (guest : Guest) (later earlier : List Event) (page : ℕ) → IsLegalSoFar guest (later ++ Stopped ∷ earlier) → page_bytes guest page (later ++ Stopped ∷ earlier) ≡ page_bytes guest page earlier
 page_stays guest [] earlier page legal = refl
-page_stays guest (Write v i address len value ∷ later) earlier page legal =
-    let f : stopped (later ++ Stopped ∷ earlier) ≡ false = (op_facts guest (later ++ Stopped ∷ earlier) (Write v i address len value) v legal.0 refl).running in
+page_stays guest (Write v i space address len value ∷ later) earlier page legal =
+    let f : stopped (later ++ Stopped ∷ earlier) ≡ false = (op_facts guest (later ++ Stopped ∷ earlier) (Write v i space address len value) v legal.0 refl).running in
     let t : stopped (later ++ Stopped ∷ earlier) ≡ true = stopped_here later earlier in
     cc
 page_stays guest (Paint v i q byte ∷ later) earlier page legal =

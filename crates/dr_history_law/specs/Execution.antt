@@ -13,8 +13,8 @@ use Rattle.dr_history.specs.Execution.{ops, acc}
 
 -- the number that an operation has in its script
 abbrev pub number_of : Event → ℕ
-number_of (Read v i address value) = i
-number_of (Write v i address len value) = i
+number_of (Read v i space address value) = i
+number_of (Write v i space address len value) = i
 number_of (Paint v i page byte) = i
 number_of (Local v i) = i
 number_of (Halted v i) = i
@@ -30,26 +30,27 @@ op_numbers v (e ∷ earlier) =
 abbrev pub ExecutesInOrder : ℕ → List Event → Type 0
 ExecutesInOrder v past = op_numbers v past ≡ below (ops v past)
 
--- the value is what memory has at the address
-abbrev pub IsInMemory : Guest → List Event → ℕ → ℕ → Type 0
-IsInMemory guest earlier address value =
-    (page : ℕ) × (page_of_address guest address ≡ Some page)
+-- the value is what memory has at the address of the space
+abbrev pub IsInMemory : Guest → List Event → ℕ → ℕ → ℕ → Type 0
+IsInMemory guest earlier space address value =
+    (page : ℕ) × (page_of_address guest space address ≡ Some page)
     × (value ≡ loaded (page_bytes guest page earlier) (address % 4096))
 
 -- the event is the vCPU's next operation, the one of that number in its script
 abbrev pub Performs : Guest → List Event → ℕ → Event → Type 0
-Performs guest earlier v (Read w i address value) =
+Performs guest earlier v (Read w i space address value) =
     (i ≡ ops v earlier)
-    × (operation guest v i ≡ Some (op.R address))
-    × IsInMemory guest earlier address value
-Performs guest earlier v (Write w i address len value) =
+    × (operation guest v i ≡ Some (op.R space address))
+    × IsInMemory guest earlier space address value
+Performs guest earlier v (Write w i space address len value) =
     (i ≡ ops v earlier)
-    × ((operation guest v i ≡ Some (op.W address len value))
-    ⊎ ((operation guest v i ≡ Some (op.S address)) × (len ≡ 8) × (value ≡ acc guest v earlier)))
+    × ((operation guest v i ≡ Some (op.W space address len value))
+    ⊎ ((operation guest v i ≡ Some (op.S space address)) × (len ≡ 8)
+    × (value ≡ acc guest v earlier)))
 Performs guest earlier v (Paint w i page byte) =
     (i ≡ ops v earlier)
-    × ((frame : ℕ) × (operation guest v i ≡ Some (op.F frame byte))
-    × (page_of_frame guest.slots frame ≡ Some page))
+    × ((space frame : ℕ) × (operation guest v i ≡ Some (op.F space frame byte))
+    × (page_of_frame guest.slots space frame ≡ Some page))
 Performs guest earlier v (Local w i) =
     (i ≡ ops v earlier)
     × (((n : ℕ) × (operation guest v i ≡ Some (op.A n)))

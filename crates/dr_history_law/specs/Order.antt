@@ -11,7 +11,7 @@ use Rattle.dr_history.specs.Rules.{deposits_entry}
 
 -- a write of the vCPU
 abbrev pub is_write_of : ℕ → Event → Bool
-is_write_of v (Write w i address len value) = w == v
+is_write_of v (Write w i space address len value) = w == v
 is_write_of v (Paint w i page byte) = w == v
 is_write_of v e = false
 

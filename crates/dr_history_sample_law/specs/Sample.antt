@@ -13,21 +13,22 @@ use Rattle.dr_history.specs.declared.event.Event.TheVariants.{Throttled, Stopped
 -- two writes into the one page
 unfoldable pub small_guest : Guest
 small_guest = record {
+  version = 1;
   settings =
       record { ring = 8; reserve = 2; buffer = 0; pace = 1; threshold = 0; rounds = 3; quota = 0 };
-  slots = record { id = 0; base = 0; pages = 1 } ∷ [];
-  scripts = (One (op.A 0) ∷ One (op.W 0 1 1) ∷ One (op.W 0 1 2) ∷ One op.Halt ∷ []) ∷ [];
+  slots = record { space = 0; id = 0; base = 0; pages = 1 } ∷ [];
+  scripts = (One (op.A 0) ∷ One (op.W 0 0 1 1) ∷ One (op.W 0 0 1 2) ∷ One op.Halt ∷ []) ∷ [];
 }
 
 -- the first write is logged
 unfoldable pub logged : List Event
 logged =
-    Pushed 0 0 ∷ Write 0 1 0 1 1 ∷ Opened 0 0 0 ∷ Synced 1 0 (0 ∷ []) ∷ Exited 0 reason.Kicked
+    Pushed 0 0 ∷ Write 0 1 0 0 1 1 ∷ Opened 0 0 0 ∷ Synced 1 0 (0 ∷ []) ∷ Exited 0 reason.Kicked
     ∷ Asked 1 ∷ Start 0 ∷ Local 0 0 ∷ []
 
 -- the page is reset and copied, and then written again by a permission that is still cached
 unfoldable pub stale : List Event
-stale = Write 0 2 0 1 2 ∷ Copied 1 0 ∷ Reset 0 0 ∷ Deposited 0 0 1 ∷ logged
+stale = Write 0 2 0 0 1 2 ∷ Copied 1 0 ∷ Reset 0 0 ∷ Deposited 0 0 1 ∷ logged
 
 -- the flush makes it dirty again, and it is copied once more before the switch-over
 unfoldable pub switched : List Event
@@ -51,6 +52,7 @@ owing = Opened 0 0 0 ∷ Start 0 ∷ Local 0 0 ∷ []
 -- two pages, each written once, with a quota
 unfoldable pub held_guest : Guest
 held_guest = record {
+  version = 1;
   settings =
       record {
         ring = 8;
@@ -61,8 +63,9 @@ held_guest = record {
         rounds = 4;
         quota = 100000;
       };
-  slots = record { id = 0; base = 0; pages = 2 } ∷ [];
-  scripts = (One (op.A 1) ∷ One (op.W 0 1 65) ∷ One (op.W 4096 2 17218) ∷ One op.Halt ∷ []) ∷ [];
+  slots = record { space = 0; id = 0; base = 0; pages = 2 } ∷ [];
+  scripts =
+      (One (op.A 1) ∷ One (op.W 0 0 1 65) ∷ One (op.W 0 4096 2 17218) ∷ One op.Halt ∷ []) ∷ [];
 }
 
 -- four rounds before the stop, each with its throttle
@@ -71,8 +74,8 @@ held =
     Switched ∷ Synced 5 0 [] ∷ Asked 5 ∷ Stopped ∷ Throttled 0 0 ∷ Synced 4 0 [] ∷ Asked 4
     ∷ Exited 0 reason.Halted ∷ Halted 0 3
     ∷ Copied 3 1 ∷ Throttled 0 516 ∷ Synced 3 0 (1 ∷ []) ∷ Flushed ∷ Reset 0 1 ∷ Deposited 0 1 2
-    ∷ Exited 0 reason.Kicked ∷ Pushed 0 1 ∷ Asked 3 ∷ Write 0 2 4096 2 17218 ∷ Opened 0 1 1
+    ∷ Exited 0 reason.Kicked ∷ Pushed 0 1 ∷ Asked 3 ∷ Write 0 2 0 4096 2 17218 ∷ Opened 0 1 1
     ∷ Copied 2 0 ∷ Throttled 0 258 ∷ Synced 2 0 (0 ∷ []) ∷ Flushed ∷ Reset 0 0 ∷ Deposited 0 0 1
-    ∷ Exited 0 reason.Kicked ∷ Pushed 0 0 ∷ Asked 2 ∷ Write 0 1 0 1 65 ∷ Opened 0 0 0
+    ∷ Exited 0 reason.Kicked ∷ Pushed 0 0 ∷ Asked 2 ∷ Write 0 1 0 0 1 65 ∷ Opened 0 0 0
     ∷ Copied 1 1 ∷ Copied 1 0 ∷ Throttled 0 0 ∷ Synced 1 0 (0 ∷ 1 ∷ []) ∷ Exited 0 reason.Kicked
     ∷ Asked 1 ∷ Start 0 ∷ Local 0 0 ∷ []

@@ -16,9 +16,10 @@ use Rattle.dr_history_sample_law.specs.Sample.{held_guest, held}
 
 unfoldable pub halting_guest : Guest
 halting_guest = record {
+  version = 1;
   settings =
       record { ring = 8; reserve = 2; buffer = 0; pace = 16; threshold = 0; rounds = 2; quota = 0 };
-  slots = record { id = 0; base = 0; pages = 1 } ∷ [];
+  slots = record { space = 0; id = 0; base = 0; pages = 1 } ∷ [];
   scripts = (One Halt ∷ []) ∷ [];
 }
 

@@ -28,11 +28,11 @@ append [] more a b = b
 append (words ∷ lines) more a b = (a.0, append lines more a.1 b)
 
 op_named : (op : Op) → AreNamed (op_line op ∷ [])
-op_named (W address len value) = (refl, tt)
-op_named (F frame byte) = (refl, tt)
-op_named (R address) = (refl, tt)
+op_named (W space address len value) = (refl, tt)
+op_named (F space frame byte) = (refl, tt)
+op_named (R space address) = (refl, tt)
 op_named (A n) = (refl, tt)
-op_named (S address) = (refl, tt)
+op_named (S space address) = (refl, tt)
 op_named (Nap us) = (refl, tt)
 op_named Halt = (refl, tt)
 

@@ -9,21 +9,30 @@ pub fn copy_of(event: &Event) -> Result<Event, AllocError>
 {
     let copy = match event {
         Event::Start { at } => Event::Start { at: *at },
-        Event::Read { v, i, addr, value } => Event::Read {
+        Event::Read {
+            v,
+            i,
+            space,
+            addr,
+            value,
+        } => Event::Read {
             v: *v,
             i: *i,
+            space: *space,
             addr: *addr,
             value: *value,
         },
         Event::Write {
             v,
             i,
+            space,
             addr,
             len,
             value,
         } => Event::Write {
             v: *v,
             i: *i,
+            space: *space,
             addr: *addr,
             len: *len,
             value: *value,

@@ -32,7 +32,7 @@ closing_fits guest (Reset v k) events closing rows store h = h
 closing_fits guest e events closing rows store h = tt
 
 pub store_fits : (guest : Guest) (e : Event) (events closing : ℕ) (rows : List (List OpenedEntry × ℕ)) (store : Store) → HasRoomFor guest e (room_of events rows closing store) → StoreFits guest e store
-store_fits guest (Write v i address len value) events closing rows store h = h
+store_fits guest (Write v i space address len value) events closing rows store h = h
 store_fits guest (Paint v i page byte) events closing rows store h = h
 store_fits guest e events closing rows store h = tt
 

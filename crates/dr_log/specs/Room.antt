@@ -28,8 +28,8 @@ has_page page room = slice_index_or room.pages page false
 -- page, a write its page; the pages of a Synced are handed in with it
 abbrev pub HasRoomFor : Guest → Event → Room → Type 0
 HasRoomFor guest (Opened v k page) room = HasEntry v room
-HasRoomFor guest (Write v i address len value) room =
-    IfSome (page_of_address guest address) (λ page. has_page page room ≡ true)
+HasRoomFor guest (Write v i space address len value) room =
+    IfSome (page_of_address guest space address) (λ page. has_page page room ≡ true)
 HasRoomFor guest (Paint v i page byte) room = has_page page room ≡ true
 HasRoomFor guest (Reset v k) room = 1 ≤ room.closing
 HasRoomFor guest (Synced r at pages) room = ⊥

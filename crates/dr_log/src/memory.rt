@@ -11,14 +11,15 @@ use dr_slots::page_of_address;
 use dr_state::State;
 use dr_types::Guest;
 
-/// The eight bytes from an address on, as a number; zero where the address lies in no slot.
-pub fn loaded_at(guest: &Guest, state: &State, address: u64) -> u64
+/// The eight bytes from an address of a space on, as a number; zero where the address lies in no
+/// slot.
+pub fn loaded_at(guest: &Guest, state: &State, space: u32, address: u64) -> u64
     requires { IsSized guest.now state.now }
     ensures { (past : List Event) → IsStateOf guest.now past state.now
-        → IfSome (page_of_address guest.now address) (λ page.
+        → IfSome (page_of_address guest.now space address) (λ page.
         result ≡ loaded (page_bytes guest.now page past) (address % 4096)) }
 {
-    match page_of_address(guest, address) {
+    match page_of_address(guest, space, address) {
         Some(page) => state.load(page, (address % 4096) as u32),
         None => 0,
     }

@@ -99,12 +99,12 @@ impl Log {
         self.state.load(page, at)
     }
 
-    /// The value that a load of 8 bytes at an address gives, the least byte first.
-    pub fn loaded(&self, address: u64) -> u64
-        requires { in_one_page self.now.guest address 8 ≡ true }
-        ensures { IfSome (page_of_address self.now.guest address) (λ page.
+    /// The value that a load of 8 bytes at an address of a space gives, the least byte first.
+    pub fn loaded(&self, space: u32, address: u64) -> u64
+        requires { in_one_page self.now.guest space address 8 ≡ true }
+        ensures { IfSome (page_of_address self.now.guest space address) (λ page.
             result ≡ loaded (page_bytes self.now.guest page self.now.past) (address % 4096)) }
     {
-        loaded_at(&self.guest, &self.state, address)
+        loaded_at(&self.guest, &self.state, space, address)
     }
 }

@@ -25,8 +25,8 @@ at_place page room (Some q) n h = subst (λ (p : ℕ). has_page p room ≡ true)
 
 -- a write takes the room of the page that it writes
 pub write_has_room : (guest : Guest) (past : List Event) (v page : ℕ) (e : Event) (room : Room) → WritesNext guest past v page e → has_page page room ≡ true → HasRoomFor guest e room
-write_has_room guest past v page (Write w i address len value) room m h =
-    at_place page room (page_of_address guest address) (and_parts (w == v) (is_number page (page_of_address guest address)) m.writes).1 h
+write_has_room guest past v page (Write w i space address len value) room m h =
+    at_place page room (page_of_address guest space address) (and_parts (w == v) (is_number page (page_of_address guest space address)) m.writes).1 h
 write_has_room guest past v page (Paint w i q byte) room m h =
     subst (λ (p : ℕ). has_page p room ≡ true) (sym (eqb-true q page (and_parts (w == v) (q == page) m.writes).1)) h
 write_has_room guest past v page e room m h = absurd (false≢true m.writes)
@@ -38,10 +38,10 @@ no_frame : (place : Option ℕ) → place ≡ None → is_some place ≡ true �
 no_frame place is some = false≢true (sym (ap (λ (p : Option ℕ). is_some p) is) ∙ some)
 
 quiet_case : (guest : Guest) (past : List Event) (v : ℕ) (o : Op) (room : Room) → OpFits guest o → op_page guest o ≡ None → HasRoomFor guest (op_event guest v past o) room
-quiet_case guest past v (op.W address len value) room fits is = nowhere room (page_of_address guest address) is
-quiet_case guest past v (op.F frame byte) room fits is = absurd (no_frame (page_of_frame guest.slots frame) is fits)
-quiet_case guest past v (op.S address) room fits is = nowhere room (page_of_address guest address) is
-quiet_case guest past v (op.R address) room fits is = tt
+quiet_case guest past v (op.W space address len value) room fits is = nowhere room (page_of_address guest space address) is
+quiet_case guest past v (op.F space frame byte) room fits is = absurd (no_frame (page_of_frame guest.slots space frame) is fits)
+quiet_case guest past v (op.S space address) room fits is = nowhere room (page_of_address guest space address) is
+quiet_case guest past v (op.R space address) room fits is = tt
 quiet_case guest past v (op.A n) room fits is = tt
 quiet_case guest past v (op.Nap us) room fits is = tt
 quiet_case guest past v op.Halt room fits is = tt

@@ -37,8 +37,8 @@ then_none a b d p q = record { each = λ v. q.each v ∙ p.each v }
 
 -- an event that throttles no vCPU
 pub quiet_event : (e : Event) (past : List Event) → IsNoThrottle e → SameThrottles past (e ∷ past)
-quiet_event (Read v i a x) past is = record { each = λ u. refl }
-quiet_event (Write v i a l x) past is = record { each = λ u. refl }
+quiet_event (Read v i space a x) past is = record { each = λ u. refl }
+quiet_event (Write v i space a l x) past is = record { each = λ u. refl }
 quiet_event (Paint v i p b) past is = record { each = λ u. refl }
 quiet_event (Local v i) past is = record { each = λ u. refl }
 quiet_event (Halted v i) past is = record { each = λ u. refl }

@@ -25,8 +25,8 @@ pub fn written_page(guest: &Guest, op: Op) -> Option<u32>
     ensures within { IfSome result (λ page. page < page_count guest.now) }
 {
     match op {
-        Op::W { addr, .. } | Op::S { addr } => page_of_address(guest, addr),
-        Op::F { gfn, .. } => page_of_frame(guest, gfn),
+        Op::W { space, addr, .. } | Op::S { space, addr } => page_of_address(guest, space, addr),
+        Op::F { space, gfn, .. } => page_of_frame(guest, space, gfn),
         _ => None,
     }
 }

@@ -41,8 +41,8 @@ ties_aside guest rings slots old new seats e aside tied legal follows same past 
 }
 
 op_aside : (e : Event) (v : ℕ) → vcpu_of_op e ≡ Some v → IsAside e
-op_aside (Read w i a x) v is = tt
-op_aside (Write w i a l x) v is = tt
+op_aside (Read w i space a x) v is = tt
+op_aside (Write w i space a l x) v is = tt
 op_aside (Paint w i q b) v is = tt
 op_aside (Local w i) v is = tt
 op_aside (Halted w i) v is = tt

@@ -26,9 +26,9 @@ named w v u n same = ap (λ (x : ℕ). cond (x == u) (n + 1) n) same
 
 -- each op's event leaves the same
 pub op_leaves : (v : ℕ) (past : List Event) (e : Event) → vcpu_of_op e ≡ Some v → OpLeaves v past e
-op_leaves v past (Read w i a x) is = let same : w ≡ v = cc in
+op_leaves v past (Read w i space a x) is = let same : w ≡ v = cc in
     record { started_stays = refl; counts = λ u. named w v u (ops u past) same; enters = own w v (in_guest v past) same; cached_stays = λ u page. refl; opened_stays = λ page. refl; closing_stays = λ page. refl }
-op_leaves v past (Write w i a l x) is = let same : w ≡ v = cc in
+op_leaves v past (Write w i space a l x) is = let same : w ≡ v = cc in
     record { started_stays = refl; counts = λ u. named w v u (ops u past) same; enters = own w v (in_guest v past) same; cached_stays = λ u page. refl; opened_stays = λ page. refl; closing_stays = λ page. refl }
 op_leaves v past (Paint w i q b) is = let same : w ≡ v = cc in
     record { started_stays = refl; counts = λ u. named w v u (ops u past) same; enters = own w v (in_guest v past) same; cached_stays = λ u page. refl; opened_stays = λ page. refl; closing_stays = λ page. refl }

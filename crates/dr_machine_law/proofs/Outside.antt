@@ -24,8 +24,8 @@ pub outside_unkicked : (v : ℕ) (past : List Event) → in_guest v past ≡ fal
 outside_unkicked v [] h = refl
 outside_unkicked v (Exited w why ∷ past) h = left_case (w == v) (in_guest v past) (kicked v past) (outside_unkicked v past) h
 outside_unkicked v (Asked r ∷ past) h = h
-outside_unkicked v (Read w i a x ∷ past) h = outside_unkicked v past (or_parts (w == v) (in_guest v past) h).1
-outside_unkicked v (Write w i a l x ∷ past) h = outside_unkicked v past (or_parts (w == v) (in_guest v past) h).1
+outside_unkicked v (Read w i space a x ∷ past) h = outside_unkicked v past (or_parts (w == v) (in_guest v past) h).1
+outside_unkicked v (Write w i space a l x ∷ past) h = outside_unkicked v past (or_parts (w == v) (in_guest v past) h).1
 outside_unkicked v (Paint w i q b ∷ past) h = outside_unkicked v past (or_parts (w == v) (in_guest v past) h).1
 outside_unkicked v (Local w i ∷ past) h = outside_unkicked v past (or_parts (w == v) (in_guest v past) h).1
 outside_unkicked v (Halted w i ∷ past) h = outside_unkicked v past (or_parts (w == v) (in_guest v past) h).1
@@ -55,15 +55,15 @@ outside_opens guest v (Pushed w k ∷ past) legal h =
 outside_opens guest v (Exited w why ∷ past) legal h =
     exit_case (w == v) (in_guest v past) (opens v past) (pushes v past) (pushed_at w v past (exit_pushed guest w why past (keeps guest past (Exited w why) legal.0).exits_with_reason_holds))
     (λ inside. none_owed (last_opens_for v past) (opens v past) (pushes v past) (unowed guest past v (Exited w why) legal.0 refl) (outside_opens guest v past legal.1 inside)) h
-outside_opens guest v (Read w i a x ∷ past) legal h =
-    none_owed (last_opens_for v past) (opens v past) (pushes v past) (unowed guest past v (Read w i a x) legal.0 refl) (outside_opens guest v past legal.1 (or_parts (w == v) (in_guest v past) h).1)
+outside_opens guest v (Read w i space a x ∷ past) legal h =
+    none_owed (last_opens_for v past) (opens v past) (pushes v past) (unowed guest past v (Read w i space a x) legal.0 refl) (outside_opens guest v past legal.1 (or_parts (w == v) (in_guest v past) h).1)
 outside_opens guest v (Local w i ∷ past) legal h =
     none_owed (last_opens_for v past) (opens v past) (pushes v past) (unowed guest past v (Local w i) legal.0 refl) (outside_opens guest v past legal.1 (or_parts (w == v) (in_guest v past) h).1)
 outside_opens guest v (Halted w i ∷ past) legal h =
     none_owed (last_opens_for v past) (opens v past) (pushes v past) (unowed guest past v (Halted w i) legal.0 refl) (outside_opens guest v past legal.1 (or_parts (w == v) (in_guest v past) h).1)
-outside_opens guest v (Write w i a l x ∷ past) legal h =
+outside_opens guest v (Write w i space a l x ∷ past) legal h =
     let parts = or_parts (w == v) (in_guest v past) h in
-    none_owed (last_opens_for v past) (opens v past) (pushes v past) (unowed guest past v (Write w i a l x) legal.0 parts.0) (outside_opens guest v past legal.1 parts.1)
+    none_owed (last_opens_for v past) (opens v past) (pushes v past) (unowed guest past v (Write w i space a l x) legal.0 parts.0) (outside_opens guest v past legal.1 parts.1)
 outside_opens guest v (Paint w i q b ∷ past) legal h =
     let parts = or_parts (w == v) (in_guest v past) h in
     none_owed (last_opens_for v past) (opens v past) (pushes v past) (unowed guest past v (Paint w i q b) legal.0 parts.0) (outside_opens guest v past legal.1 parts.1)

@@ -47,12 +47,12 @@ painted page (Some q) byte bytes some ne = kept (q == page) (filled byte) bytes 
 
 -- an op leaves the pages that it doesn't write
 pub op_keeps : (guest : Guest) (page v : ℕ) (past : List Event) (o : Op) (bytes : List ℕ) → OpFits guest o → op_page guest o ≢ Some page → page_after guest page (op_event guest v past o) bytes ≡ bytes
-op_keeps guest page v past (op.W address len value) bytes fits ne =
-    kept (is_number page (page_of_address guest address)) (overwritten bytes (address % 4096) (low_bytes len value)) bytes (another page (page_of_address guest address) ne)
-op_keeps guest page v past (op.F frame byte) bytes fits ne = painted page (page_of_frame guest.slots frame) byte bytes fits ne
-op_keeps guest page v past (op.S address) bytes fits ne =
-    kept (is_number page (page_of_address guest address)) (overwritten bytes (address % 4096) (low_bytes 8 (acc guest v past))) bytes (another page (page_of_address guest address) ne)
-op_keeps guest page v past (op.R address) bytes fits ne = refl
+op_keeps guest page v past (op.W space address len value) bytes fits ne =
+    kept (is_number page (page_of_address guest space address)) (overwritten bytes (address % 4096) (low_bytes len value)) bytes (another page (page_of_address guest space address) ne)
+op_keeps guest page v past (op.F space frame byte) bytes fits ne = painted page (page_of_frame guest.slots space frame) byte bytes fits ne
+op_keeps guest page v past (op.S space address) bytes fits ne =
+    kept (is_number page (page_of_address guest space address)) (overwritten bytes (address % 4096) (low_bytes 8 (acc guest v past))) bytes (another page (page_of_address guest space address) ne)
+op_keeps guest page v past (op.R space address) bytes fits ne = refl
 op_keeps guest page v past (op.A n) bytes fits ne = refl
 op_keeps guest page v past (op.Nap us) bytes fits ne = refl
 op_keeps guest page v past op.Halt bytes fits ne = refl

@@ -31,8 +31,8 @@ times_append : (xs ys : List Event) → times (xs ++ ys) ≡ times xs ++ times y
 times_append [] ys = refl
 times_append (Start at ∷ xs) ys = ap (λ ts. at ∷ ts) (times_append xs ys)
 times_append (Synced r at pages ∷ xs) ys = ap (λ ts. at ∷ ts) (times_append xs ys)
-times_append (Read v i a x ∷ xs) ys = times_append xs ys
-times_append (Write v i a l x ∷ xs) ys = times_append xs ys
+times_append (Read v i space a x ∷ xs) ys = times_append xs ys
+times_append (Write v i space a l x ∷ xs) ys = times_append xs ys
 times_append (Paint v i p b ∷ xs) ys = times_append xs ys
 times_append (Local v i ∷ xs) ys = times_append xs ys
 times_append (Halted v i ∷ xs) ys = times_append xs ys

@@ -61,6 +61,31 @@ const THROTTLED: Row = Row {
     ..TWO_WRITES
 };
 
+/// The same address in both spaces, written before the start.
+const SAME_ADDRESS: Row = Row {
+    head: "dirtyguest 2\nring 8\nreserve 2\nbuffer 0\npace 16\nthreshold 0\nrounds 2\nquota ",
+    quota: "0",
+    tail: "\nslot 0 0 1\nslot 1:0 0 1\nvcpu\nw 1:0 41\nw 0 42\nhalt\n",
+    events: 15,
+    journal: &[
+        "journal\nw 0 0 1:0 41\nw 0 1 0 42\nh 0 2\nx 0 halted\nstart 0\nask 1\nsync 1 0 2 0 1\n",
+    ],
+    report: &["guest pages 2 vcpus 1 ring 8 soft 6\n"],
+    image: &[0x42, 0x41],
+};
+
+/// The two writes, each in a space of its own.
+const TWO_SPACES: Row = Row {
+    head: "dirtyguest 2\nring 8\nreserve 2\nbuffer 2\npace 1\nthreshold 0\nrounds 4\nquota ",
+    tail: "\nslot 0 0 1\nslot 1:0 0 1\nvcpu\na 1\nw 0 41\nw 1:0 4243\nhalt\n",
+    journal: &[
+        "copy 1 1\no 0 0 0\nw 0 1 0 41\nask 2\np 0 0\nx 0 kicked\nd 0 0 1\nz 0 0\nflush\nsync 2 0 1 0\n",
+        "sync 2 0 1 0\ncopy 2 0\no 0 1 1\nw 0 2 1:0 4243\nask 3\np 0 1\nx 0 kicked\nd 0 1 2\nz 0 1\n",
+        "z 0 1\nflush\nsync 3 0 1 1\ncopy 3 1\nh 0 3\nx 0 halted\nask 4\nsync 4 0 0\nstop\nask 5\n",
+    ],
+    ..TWO_WRITES
+};
+
 /// Twelve pages through a ring that is full after five of them.
 const FULL_RING: Row = Row {
     head: "dirtyguest 1\nring 8\nreserve 2\nbuffer 1\npace 13\nthreshold 0\nrounds 4\nquota ",
@@ -159,6 +184,8 @@ fn migrates_guests_that_run_on(rt: HostRuntime) -> Result<(), Fail> {
     };
     let rows = [
         TWO_WRITES,
+        SAME_ADDRESS,
+        TWO_SPACES,
         THROTTLED,
         FULL_RING,
         full_with_quota,

@@ -43,7 +43,7 @@ fn keeps_a_refused_file(rt: HostRuntime) -> Result<(), Fail> {
             "dirtyguest 1\nring 6\nreserve 2\n",
             FileFault::RingSize { no: 2 },
         ),
-        ("dirtyguest 2\n# the end", FileFault::Magic { no: 1 }),
+        ("dirtyguest 3\n# the end", FileFault::Magic { no: 1 }),
     ];
     for (file, fault) in rows {
         let status = refusal(rt.alloc(), file)?;

@@ -3,7 +3,7 @@ use Rattle.std.proofs.Common.{◌≡◌, ℕ, ◌+◌, ◌<◌, ◌≤◌, Bool,
 use Rattle.std.specs.Prelude.{◌==◌, nat_lt, IfSome}
 use Rattle.std.proofs.lemmas.Bool.{le-ltb, ltb-true}
 use Rattle.dr_types.specs.declared.guest.SlotRow.{SlotRow}
-use Rattle.dr_types.specs.Pages.{pages_of_slots}
+use Rattle.dr_types.specs.Pages.{slot_field, pages_of_slots}
 use Rattle.dr_slots.specs.Places.{page_at_from, page_at_place}
 use Rattle.std.specs.Int.{bit_at}
 use Rattle.dr_protect.specs.Masks.{named_page}
@@ -12,7 +12,7 @@ use Rattle.dr_protect.specs.Masks.{named_page}
 far_from : (first : ℕ) (rows : List SlotRow) (slot offset : ℕ) → pages_of_slots rows ≤ offset → page_at_from first rows slot offset ≡ None
 far_from first [] slot offset le = refl
 far_from first (row ∷ rows) slot offset le =
-    by_test (row.id == slot) (nat_lt offset row.pages) (le-ltb offset row.pages (omega arith)) (far_from (first + row.pages) rows slot offset (omega arith))
+    by_test (slot_field row == slot) (nat_lt offset row.pages) (le-ltb offset row.pages (omega arith)) (far_from (first + row.pages) rows slot offset (omega arith))
   where
     by_test : (here short : Bool) → short ≡ false → page_at_from (first + row.pages) rows slot offset ≡ None → cond here (cond short (Some (first + offset)) None) (page_at_from (first + row.pages) rows slot offset) ≡ None
     by_test true short is later = ap (λ b. cond b (Some (first + offset)) None) is
@@ -24,7 +24,7 @@ far_place rows slot offset le = far_from 0 rows slot offset le
 within_from : (first : ℕ) (rows : List SlotRow) (slot offset : ℕ) → IfSome (page_at_from first rows slot offset) (λ page. page < first + pages_of_slots rows)
 within_from first [] slot offset = tt
 within_from first (row ∷ rows) slot offset =
-    by_test (row.id == slot) (nat_lt offset row.pages) (λ lt. ltb-true offset row.pages lt) (page_at_from (first + row.pages) rows slot offset) (within_from (first + row.pages) rows slot offset)
+    by_test (slot_field row == slot) (nat_lt offset row.pages) (λ lt. ltb-true offset row.pages lt) (page_at_from (first + row.pages) rows slot offset) (within_from (first + row.pages) rows slot offset)
   where
     by_test : (here short : Bool) → (short ≡ true → offset < row.pages) → (o : Option ℕ) → IfSome o (λ page. page < first + row.pages + pages_of_slots rows)
         → IfSome (cond here (cond short (Some (first + offset)) None) o) (λ page. page < first + (row.pages + pages_of_slots rows))

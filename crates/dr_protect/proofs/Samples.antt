@@ -6,7 +6,7 @@ use Rattle.dr_types.specs.declared.guest.SlotRow.{SlotRow}
 use Rattle.dr_types.specs.Validity.{AreSlots}
 
 abbrev row : ℕ → ℕ → ℕ → SlotRow
-row id base pages = record { id = id; base = base; pages = pages }
+row id base pages = record { space = 0; id = id; base = base; pages = pages }
 
 both : (P : SlotRow → Type 0) (a b : SlotRow) → P a → P b → All P (a ∷ b ∷ [])
 both P a b h g = All-cons P a (b ∷ []) h (All-cons P b [] g (All-nil P))
@@ -18,6 +18,7 @@ are_slots : AreSlots two_slots
 are_slots = record {
   some = omega arith;
   few = omega arith;
+  spaces = both (λ row. row.space ≤ 1) _ _ (omega arith) (omega arith);
   ids = both (λ row. row.id ≤ 65535) _ _ (omega arith) (omega arith);
   some_pages = both (λ row. 1 ≤ row.pages) _ _ (omega arith) (omega arith);
   ends = both (λ row. row.base + row.pages ≤ 2 ^ 52) _ _ (omega arith) (omega arith);

@@ -122,8 +122,9 @@ impl Protect {
         self.writable[page as usize] = false;
     }
 
-    /// Protects the page at the offset `base + i` of a slot for each bit `i` that is set in the
-    /// mask. An offset after the slot's end is passed over, and so is a slot that isn't there.
+    /// Protects the page at the offset `base + i` of the slot of this field for each bit `i` that
+    /// is set in the mask. An offset after the slot's end is passed over, and so is a slot that
+    /// isn't there.
     pub fn protect_mask(&mut self, slot: u32, base: u64, mask: u64)
         ensures { self.new ≡ masked slot base mask self.old }
     {

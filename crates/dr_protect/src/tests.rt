@@ -18,11 +18,13 @@ fn two_slots(alloc: Global) -> Result<SlotList, Fail>
 {
     Ok(Listed::from_vec(vec![in alloc;
         SlotRow {
+            space: 0,
             id: 5,
             base: 100,
             pages: 2
         },
         SlotRow {
+            space: 0,
             id: 7,
             base: 0,
             pages: 66

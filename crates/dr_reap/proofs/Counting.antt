@@ -22,8 +22,8 @@ both_more false a b h = h
 
 writes_ops : (past : List Event) (v : ℕ) → writes v past ≤ ops v past
 writes_ops [] v = omega arith
-writes_ops (Read w i address value ∷ past) v = more (w == v) (writes v past) (ops v past) (writes_ops past v)
-writes_ops (Write w i address len value ∷ past) v = both_more (w == v) (writes v past) (ops v past) (writes_ops past v)
+writes_ops (Read w i space address value ∷ past) v = more (w == v) (writes v past) (ops v past) (writes_ops past v)
+writes_ops (Write w i space address len value ∷ past) v = both_more (w == v) (writes v past) (ops v past) (writes_ops past v)
 writes_ops (Paint w i page byte ∷ past) v = both_more (w == v) (writes v past) (ops v past) (writes_ops past v)
 writes_ops (Local w i ∷ past) v = more (w == v) (writes v past) (ops v past) (writes_ops past v)
 writes_ops (Halted w i ∷ past) v = more (w == v) (writes v past) (ops v past) (writes_ops past v)

@@ -32,8 +32,8 @@ named_is n v w h e = rw (sym (some_same w v e)) (ltb-true w n h)
 -- the vCPU of an event is one of the guest
 pub named : (guest : Guest) (past : List Event) (e : Event) (v : ℕ) → broken guest past e ≡ None → vcpu_of e ≡ Some v → v < vcpu_count guest
 unfolding names_exist
-named guest past (Read w i address value) v h is = named_is (vcpu_count guest) v w (and_parts _ _ (keeps guest past (Read w i address value) h).names_exist_holds).0 is
-named guest past (Write w i address len value) v h is = named_is (vcpu_count guest) v w (and_parts _ _ (keeps guest past (Write w i address len value) h).names_exist_holds).0 is
+named guest past (Read w i space address value) v h is = named_is (vcpu_count guest) v w (and_parts _ _ (keeps guest past (Read w i space address value) h).names_exist_holds).0 is
+named guest past (Write w i space address len value) v h is = named_is (vcpu_count guest) v w (and_parts _ _ (keeps guest past (Write w i space address len value) h).names_exist_holds).0 is
 named guest past (Paint w i page byte) v h is = named_is (vcpu_count guest) v w (and_parts _ _ (keeps guest past (Paint w i page byte) h).names_exist_holds).0 is
 named guest past (Local w i) v h is = named_is (vcpu_count guest) v w (keeps guest past (Local w i) h).names_exist_holds is
 named guest past (Halted w i) v h is = named_is (vcpu_count guest) v w (keeps guest past (Halted w i) h).names_exist_holds is
@@ -58,10 +58,10 @@ sheet_after guest (Synced r at pages) past legal =
     ∙ ap (with_text (sheet_of guest (Synced r at pages ∷ past))) (append_assoc (guest_line guest) (closed_answers (vcpu_count guest) past) lines)
 sheet_after guest (Copied r page) past legal = refl
 sheet_after guest Switched past legal = refl
-sheet_after guest (Read v i address value) past legal =
-    ap (with_tallies (sheet_of guest (Read v i address value ∷ past))) (tallied_with (Read v i address value) past (vcpu_count guest) v refl refl (named guest past (Read v i address value) v legal.0 refl))
-sheet_after guest (Write v i address len value) past legal =
-    ap (with_tallies (sheet_of guest (Write v i address len value ∷ past))) (tallied_with (Write v i address len value) past (vcpu_count guest) v refl refl (named guest past (Write v i address len value) v legal.0 refl))
+sheet_after guest (Read v i space address value) past legal =
+    ap (with_tallies (sheet_of guest (Read v i space address value ∷ past))) (tallied_with (Read v i space address value) past (vcpu_count guest) v refl refl (named guest past (Read v i space address value) v legal.0 refl))
+sheet_after guest (Write v i space address len value) past legal =
+    ap (with_tallies (sheet_of guest (Write v i space address len value ∷ past))) (tallied_with (Write v i space address len value) past (vcpu_count guest) v refl refl (named guest past (Write v i space address len value) v legal.0 refl))
 sheet_after guest (Paint v i page byte) past legal =
     ap (with_tallies (sheet_of guest (Paint v i page byte ∷ past))) (tallied_with (Paint v i page byte) past (vcpu_count guest) v refl refl (named guest past (Paint v i page byte) v legal.0 refl))
 sheet_after guest (Local v i) past legal =

@@ -11,6 +11,9 @@ all_one P x h (suc k) d l = absurd (omega arith)
 pub halting_is_valid : IsValid halting_guest
 unfolding halting_guest ones
 halting_is_valid = record {
+  version_some = omega arith;
+  version = omega arith;
+  spaces = all_one (λ row. row.space < 1) _ (omega arith);
   settings = record {
     ring_least = omega arith;
     ring_most = omega arith;
@@ -29,6 +32,7 @@ halting_is_valid = record {
   slots = record {
     some = omega arith;
     few = omega arith;
+    spaces = all_one (λ row. row.space ≤ 1) _ (omega arith);
     ids = all_one (λ row. row.id ≤ 65535) _ (omega arith);
     some_pages = all_one (λ row. 1 ≤ row.pages) _ (omega arith);
     ends = all_one (λ row. row.base + row.pages ≤ 2 ^ 52) _ (omega arith);

@@ -13,8 +13,8 @@ use Rattle.dr_report.specs.declared.tally.Tally.{Tally}
 
 -- the vCPU whose tally the event changes
 abbrev pub vcpu_of : Event → Option ℕ
-vcpu_of (Read v i address value) = Some v
-vcpu_of (Write v i address len value) = Some v
+vcpu_of (Read v i space address value) = Some v
+vcpu_of (Write v i space address len value) = Some v
 vcpu_of (Paint v i page byte) = Some v
 vcpu_of (Local v i) = Some v
 vcpu_of (Halted v i) = Some v
@@ -25,8 +25,8 @@ vcpu_of e = None
 
 -- the tally of the event's vCPU with the event
 abbrev pub counted : Event → Tally → Tally
-counted (Read v i address value) t = record t { ops = t.ops + 1 }
-counted (Write v i address len value) t = record t { ops = t.ops + 1 }
+counted (Read v i space address value) t = record t { ops = t.ops + 1 }
+counted (Write v i space address len value) t = record t { ops = t.ops + 1 }
 counted (Paint v i page byte) t = record t { ops = t.ops + 1 }
 counted (Local v i) t = record t { ops = t.ops + 1 }
 counted (Halted v i) t = record t { ops = t.ops + 1 }

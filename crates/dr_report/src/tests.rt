@@ -15,6 +15,7 @@ fn guest(alloc: Global) -> Result<Guest, Fail>
 {
     let mut slots = Listed::new(alloc);
     slots.push(SlotRow {
+        space: 0,
         id: 0,
         base: 0,
         pages: 1,
@@ -33,6 +34,7 @@ fn guest(alloc: Global) -> Result<Guest, Fail>
         quota: 0,
     };
     Ok(Guest {
+        version: 1,
         settings,
         slots,
         scripts,

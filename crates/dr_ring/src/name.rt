@@ -27,6 +27,7 @@ impl Name for Brand {
     ghost use Rattle.dr_types.specs.Ports.{silent};
 
     ghost guest = { record {
+      version = 0;
       settings = record {
         ring = 0;
         reserve = 0;

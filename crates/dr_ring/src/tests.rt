@@ -38,6 +38,12 @@ fn words_of_an_entry(rt: HostRuntime) -> Result<(), Fail> {
     assert_eq!(rt; (dirty, offset), (0x0000_0003_0000_0001, 2));
     assert_eq!(rt; entry_words(e, 3), (0x0000_0003_0000_0003, 2));
     assert_eq!(rt; dirty.to_le_bytes(), [1, 0, 0, 0, 3, 0, 0, 0]);
+    // The same slot of space 1.
+    let e = Entry {
+        slot: 0x0001_0003,
+        offset: 2,
+    };
+    assert_eq!(rt; entry_words(e, 1), (0x0001_0003_0000_0001, 2));
     Ok(())
 }
 

@@ -26,38 +26,46 @@ fn is_next(i: u32, executed: u64, is_it: bool) -> bool
 }
 
 /// The operation that a vCPU executes next stores these bytes.
-fn stores_next(log: &Log, v: u32, addr: u64, len: u32, value: u64) -> bool
+fn stores_next(log: &Log, v: u32, space: u32, addr: u64, len: u32, value: u64) -> bool
     requires { v < vcpu_count log.now.guest }
     ensures { let past = log.now.past in
         let op = operation log.now.guest v (ops v past) in
-        result ≡ is_store op (acc log.now.guest v past) addr len value }
+        result ≡ is_store op (acc log.now.guest v past) space addr len value }
 {
     let op = log.next_op(v);
     let register = log.register(v);
-    is_store(op, register, addr, len, value)
+    is_store(op, register, space, addr, len, value)
 }
 
-/// Rule 4: an operation is the next one of its vCPU's script, with its address, bytes and register.
+/// Rule 4: an operation is the next one of its vCPU's script, with its space, address,
+/// bytes and register.
 #[tactic(auto, unfolding(dr_history::specs::Rules::follows_script))]
 pub fn follows_script(log: &Log, e: &Event) -> bool
     requires { IsNamed log.now.guest e.now }
     ensures { result ≡ follows_script log.now.guest log.now.past e.now }
 {
     match e {
-        Event::Read { v, i, addr, .. } => {
+        Event::Read {
+            v,
+            i,
+            space,
+            addr,
+            ..
+        } => {
             let executed = log.ops(*v);
-            let loads = is_load(log.next_op(*v), *addr);
+            let loads = is_load(log.next_op(*v), *space, *addr);
             is_next(*i, executed, loads)
         }
         Event::Write {
             v,
             i,
+            space,
             addr,
             len,
             value,
         } => {
             let executed = log.ops(*v);
-            let stores = stores_next(log, *v, *addr, *len, *value);
+            let stores = stores_next(log, *v, *space, *addr, *len, *value);
             is_next(*i, executed, stores)
         }
         Event::Paint { v, i, page, byte } => {

@@ -11,7 +11,12 @@ pub fn reads_memory(log: &Log, e: &Event) -> bool
     ensures { result ≡ reads_memory log.now.guest log.now.past e.now }
 {
     match e {
-        Event::Read { addr, value, .. } => match page_of_address(log.guest(), *addr) {
+        Event::Read {
+            space,
+            addr,
+            value,
+            ..
+        } => match page_of_address(log.guest(), *space, *addr) {
             Some(page) => *value == log.load(page, (*addr % 4096) as u32),
             None => false,
         },

@@ -15,7 +15,12 @@ fn writes_page(guest: &Guest, v: u32, page: u32, e: &Event) -> bool
     ensures { result ≡ writes_page guest.now v page e.now }
 {
     match e {
-        Event::Write { v: w, addr, .. } => *w == v && page_of_address(guest, *addr) == Some(page),
+        Event::Write {
+            v: w,
+            space,
+            addr,
+            ..
+        } => *w == v && page_of_address(guest, *space, *addr) == Some(page),
         Event::Paint { v: w, page: q, .. } => *w == v && *q == page,
         _ => false,
     }
@@ -47,11 +52,11 @@ fn is_vcpu(guest: &Guest, v: u32) -> bool
     (v as usize) < guest.scripts.len()
 }
 
-fn in_one_page(guest: &Guest, address: u64, len: u32) -> bool
+fn in_one_page(guest: &Guest, space: u32, address: u64, len: u32) -> bool
     requires { page_count guest.now < 2 ^ 32 }
-    ensures { result ≡ in_one_page guest.now address len }
+    ensures { result ≡ in_one_page guest.now space address len }
 {
-    page_of_address(guest, address).is_some() && address % 4096 + u64::from(len) <= 4096
+    page_of_address(guest, space, address).is_some() && address % 4096 + u64::from(len) <= 4096
 }
 
 /// Each of these is a page of the guest.
@@ -74,8 +79,16 @@ pub fn names_exist(log: &Log, e: &Event) -> bool
     let guest = log.guest();
     let count = log.pages();
     match e {
-        Event::Read { v, addr, .. } => is_vcpu(guest, *v) && in_one_page(guest, *addr, 8),
-        Event::Write { v, addr, len, .. } => is_vcpu(guest, *v) && in_one_page(guest, *addr, *len),
+        Event::Read { v, space, addr, .. } => {
+            is_vcpu(guest, *v) && in_one_page(guest, *space, *addr, 8)
+        }
+        Event::Write {
+            v,
+            space,
+            addr,
+            len,
+            ..
+        } => is_vcpu(guest, *v) && in_one_page(guest, *space, *addr, *len),
         Event::Paint { v, page, .. } | Event::Opened { v, page, .. } | Event::Filled { v, page } =>
             { is_vcpu(guest, *v) && *page < count }
         Event::Local { v, .. }

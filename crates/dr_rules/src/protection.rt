@@ -29,8 +29,8 @@ pub fn write_is_cached(log: &Log, e: &Event) -> bool
     ensures { result ≡ write_is_cached log.now.guest log.now.past e.now }
 {
     match e {
-        Event::Write { v, addr, .. } => {
-            !log.started() || is_cached_for(log, *v, page_of_address(log.guest(), *addr))
+        Event::Write { v, space, addr, .. } => {
+            !log.started() || is_cached_for(log, *v, page_of_address(log.guest(), *space, *addr))
         }
         Event::Paint { v, page, .. } => !log.started() || log.cached(*v, *page),
         _ => true,

@@ -22,8 +22,8 @@ use Rattle.dr_schedule_law.proofs.Sums.{flag_few, count_more, sum_below, sum_ris
 
 -- the vCPU that the event names is one of the guest's
 abbrev NamesVcpu : Guest → Event → Type 0
-NamesVcpu guest (Read v i address value) = v < vcpu_count guest
-NamesVcpu guest (Write v i address len value) = v < vcpu_count guest
+NamesVcpu guest (Read v i space address value) = v < vcpu_count guest
+NamesVcpu guest (Write v i space address len value) = v < vcpu_count guest
 NamesVcpu guest (Paint v i page byte) = v < vcpu_count guest
 NamesVcpu guest (Local v i) = v < vcpu_count guest
 NamesVcpu guest (Halted v i) = v < vcpu_count guest
@@ -37,8 +37,8 @@ NamesVcpu guest e = Unit {0}
 vcpu_exists : (guest : Guest) (past : List Event) (e : Event) → names_exist guest past e ≡ true
     → NamesVcpu guest e
 unfolding names_exist
-vcpu_exists guest past (Read v i address value) h = ltb-true v (vcpu_count guest) (and_parts _ _ h).0
-vcpu_exists guest past (Write v i address len value) h = ltb-true v (vcpu_count guest) (and_parts _ _ h).0
+vcpu_exists guest past (Read v i space address value) h = ltb-true v (vcpu_count guest) (and_parts _ _ h).0
+vcpu_exists guest past (Write v i space address len value) h = ltb-true v (vcpu_count guest) (and_parts _ _ h).0
 vcpu_exists guest past (Paint v i page byte) h = ltb-true v (vcpu_count guest) (and_parts _ _ h).0
 vcpu_exists guest past (Local v i) h = ltb-true v (vcpu_count guest) h
 vcpu_exists guest past (Halted v i) h = ltb-true v (vcpu_count guest) h
@@ -54,7 +54,7 @@ named guest past e h = vcpu_exists guest past e (keeps guest past e h).names_exi
 
 page_write : (guest : Guest) (v page : ℕ) (e : Event) → writes_page guest v page e ≡ true
     → is_write e ≡ true
-page_write guest v page (Write w i address len value) h = refl
+page_write guest v page (Write w i space address len value) h = refl
 page_write guest v page (Paint w i q byte) h = refl
 page_write guest v page e h = absurd (false≢true h)
 
@@ -109,15 +109,15 @@ pub accounted : (guest : Guest) (past : List Event) → IsLegalSoFar guest past
     → length past + flag (unflushed past)
     ≤ all_events guest past + migrator_events past + flag (last_owes_write past)
 accounted guest [] legal = omega arith
-accounted guest (Read w i address value ∷ past) legal =
+accounted guest (Read w i space address value ∷ past) legal =
     let counted =
-    rises guest past (Read w i address value) w 2 (named guest past (Read w i address value) legal.0)
+    rises guest past (Read w i space address value) w 2 (named guest past (Read w i space address value) legal.0)
     (λ v. omega (arith, count_more (w == v) (ops v past))) in
     omega (arith, accounted guest past legal.1, flag_few (last_owes_write past), counted)
-accounted guest (Write w i address len value ∷ past) legal =
+accounted guest (Write w i space address len value ∷ past) legal =
     let counted =
-    rises guest past (Write w i address len value) w 2
-    (named guest past (Write w i address len value) legal.0)
+    rises guest past (Write w i space address len value) w 2
+    (named guest past (Write w i space address len value) legal.0)
     (λ v. omega (arith, count_more (w == v) (ops v past))) in
     omega (arith, accounted guest past legal.1, flag_few (last_owes_write past), counted)
 accounted guest (Paint w i page byte ∷ past) legal =

@@ -48,12 +48,12 @@ reset_case false p r n le = le
 -- the turn of another vCPU leaves it aside
 pub turn_aside : (v u : ℕ) (old : List Event) → (v == u) ≡ false → (e : Event) (xs : List Event)
     → turn_of e ≡ Some v → IsAside u old xs → IsAside u old (e ∷ xs)
-turn_aside v u old not (Read w i a x) xs is it = record {
+turn_aside v u old not (Read w i space a x) xs is it = record {
   uses = it.uses;
   halts = it.halts;
   stays = or_case (w == u) (in_guest u xs) (other_vcpu w v u is not) ∙ it.stays;
 }
-turn_aside v u old not (Write w i a l x) xs is it = record {
+turn_aside v u old not (Write w i space a l x) xs is it = record {
   uses = it.uses;
   halts = it.halts;
   stays = or_case (w == u) (in_guest u xs) (other_vcpu w v u is not) ∙ it.stays;

@@ -36,8 +36,8 @@ own_op : (w v : ℕ) (past : List Event) → Some w ≡ Some v → (w == v || in
 own_op w v past is = or_left (w == v) (in_guest v past) (eq-eqb w v (same_number w v is))
 
 inside_after : (e : Event) (v : ℕ) (past : List Event) → vcpu_of_op e ≡ Some v → in_guest v (e ∷ past) ≡ true
-inside_after (Read w i a x) v past is = own_op w v past is
-inside_after (Write w i a l x) v past is = own_op w v past is
+inside_after (Read w i space a x) v past is = own_op w v past is
+inside_after (Write w i space a l x) v past is = own_op w v past is
 inside_after (Paint w i q b) v past is = own_op w v past is
 inside_after (Local w i) v past is = own_op w v past is
 inside_after (Halted w i) v past is = own_op w v past is

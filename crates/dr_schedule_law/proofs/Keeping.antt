@@ -23,8 +23,8 @@ use Rattle.dr_schedule_law.proofs.Reaping.{by_test}
 
 -- the vCPU in whose turn the event comes
 abbrev pub turn_of : Event → Option ℕ
-turn_of (Read w i a x) = Some w
-turn_of (Write w i a l x) = Some w
+turn_of (Read w i space a x) = Some w
+turn_of (Write w i space a l x) = Some w
 turn_of (Paint w i q b) = Some w
 turn_of (Local w i) = Some w
 turn_of (Halted w i) = Some w
@@ -36,8 +36,8 @@ turn_of e = None
 
 -- an op comes in the turn of its vCPU
 op_turn : (e : Event) (v : ℕ) → vcpu_of_op e ≡ Some v → turn_of e ≡ Some v
-op_turn (Read w i a x) v is = is
-op_turn (Write w i a l x) v is = is
+op_turn (Read w i space a x) v is = is
+op_turn (Write w i space a l x) v is = is
 op_turn (Paint w i q b) v is = is
 op_turn (Local w i) v is = is
 op_turn (Halted w i) v is = is

@@ -50,8 +50,8 @@ advance_keeps_deposits guest starts now past step =
 
 op_deposits : (e : Event) (v u k : ℕ) (past : List Event) → vcpu_of_op e ≡ Some v
     → list_any (deposits_entry u k) (e ∷ past) ≡ list_any (deposits_entry u k) past
-op_deposits (Read w i a x) v u k past is = refl
-op_deposits (Write w i a l x) v u k past is = refl
+op_deposits (Read w i space a x) v u k past is = refl
+op_deposits (Write w i space a l x) v u k past is = refl
 op_deposits (Paint w i q b) v u k past is = refl
 op_deposits (Local w i) v u k past is = refl
 op_deposits (Halted w i) v u k past is = refl

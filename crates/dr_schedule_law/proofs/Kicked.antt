@@ -48,8 +48,8 @@ kicked_inside [] v h = h
 kicked_inside (Asked r ∷ past) v h = h
 kicked_inside (Exited w why ∷ past) v h =
     exit_case (w == v) (in_guest v past) (kicked v past) (kicked_inside past v) h
-kicked_inside (Read w i a x ∷ past) v h = or_right (w == v) (in_guest v past) (kicked_inside past v h)
-kicked_inside (Write w i a l x ∷ past) v h = or_right (w == v) (in_guest v past) (kicked_inside past v h)
+kicked_inside (Read w i space a x ∷ past) v h = or_right (w == v) (in_guest v past) (kicked_inside past v h)
+kicked_inside (Write w i space a l x ∷ past) v h = or_right (w == v) (in_guest v past) (kicked_inside past v h)
 kicked_inside (Paint w i q b ∷ past) v h = or_right (w == v) (in_guest v past) (kicked_inside past v h)
 kicked_inside (Local w i ∷ past) v h = or_right (w == v) (in_guest v past) (kicked_inside past v h)
 kicked_inside (Halted w i ∷ past) v h = or_right (w == v) (in_guest v past) (kicked_inside past v h)

@@ -61,9 +61,9 @@ outside_pushed guest (Exited w why ∷ past) v legal h =
     (none_owed (last_opens_for v past) (opens v past) (pushes v past)
     (unowed guest past v (Exited w why) legal.0 refl) (outside_pushed guest past v legal.1 out))) h in
     omega (arith, all)
-outside_pushed guest (Read w i a x ∷ past) v legal h =
+outside_pushed guest (Read w i space a x ∷ past) v legal h =
     none_owed (last_opens_for v past) (opens v past) (pushes v past)
-    (unowed guest past v (Read w i a x) legal.0 refl)
+    (unowed guest past v (Read w i space a x) legal.0 refl)
     (outside_pushed guest past v legal.1 (or_parts (w == v) (in_guest v past) h).1)
 outside_pushed guest (Local w i ∷ past) v legal h =
     none_owed (last_opens_for v past) (opens v past) (pushes v past)
@@ -73,10 +73,10 @@ outside_pushed guest (Halted w i ∷ past) v legal h =
     none_owed (last_opens_for v past) (opens v past) (pushes v past)
     (unowed guest past v (Halted w i) legal.0 refl)
     (outside_pushed guest past v legal.1 (or_parts (w == v) (in_guest v past) h).1)
-outside_pushed guest (Write w i a l x ∷ past) v legal h =
+outside_pushed guest (Write w i space a l x ∷ past) v legal h =
     let parts = or_parts (w == v) (in_guest v past) h in
     none_owed (last_opens_for v past) (opens v past) (pushes v past)
-    (unowed guest past v (Write w i a l x) legal.0 parts.0) (outside_pushed guest past v legal.1 parts.1)
+    (unowed guest past v (Write w i space a l x) legal.0 parts.0) (outside_pushed guest past v legal.1 parts.1)
 outside_pushed guest (Paint w i q b ∷ past) v legal h =
     let parts = or_parts (w == v) (in_guest v past) h in
     none_owed (last_opens_for v past) (opens v past) (pushes v past)

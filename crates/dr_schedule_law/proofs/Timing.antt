@@ -27,8 +27,8 @@ use Rattle.dr_schedule_law.specs.Timed.{MayAddTime}
 use Rattle.dr_schedule_law.proofs.Reaping.{by_test, by_reaped}
 
 op_untimed : (e : Event) (v : ℕ) (past : List Event) → vcpu_of_op e ≡ Some v → times (e ∷ past) ≡ times past
-op_untimed (Read w i a x) v past is = refl
-op_untimed (Write w i a l x) v past is = refl
+op_untimed (Read w i space a x) v past is = refl
+op_untimed (Write w i space a l x) v past is = refl
 op_untimed (Paint w i q b) v past is = refl
 op_untimed (Local w i) v past is = refl
 op_untimed (Halted w i) v past is = refl

@@ -19,7 +19,7 @@ use Rattle.dr_history_law.proofs.Order.{opened_in_order, unowed, none_owed}
 use Rattle.dr_schedule_law.specs.Counts.{flag, exits}
 
 write_is_op : (v : ℕ) (e : Event) → is_write_of v e ≡ true → is_op_of v e ≡ true
-write_is_op v (Write w i address len value) h = h
+write_is_op v (Write w i space address len value) h = h
 write_is_op v (Paint w i page byte) h = h
 write_is_op v e h = absurd (false≢true h)
 

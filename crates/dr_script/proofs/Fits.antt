@@ -18,11 +18,11 @@ Each slots [] = Unit {0}
 Each slots (op ∷ ops) = IsOpOrHalt slots op × Each slots ops
 
 one : (slots : List SlotRow) (op : Op) → IsOp slots op → IsOpOrHalt slots op
-one slots (W address len value) is = is
-one slots (F frame byte) is = is
-one slots (R address) is = is
+one slots (W space address len value) is = is
+one slots (F space frame byte) is = is
+one slots (R space address) is = is
 one slots (A n) is = is
-one slots (S address) is = is
+one slots (S space address) is = is
 one slots (Nap us) is = is
 one slots Halt is = tt
 

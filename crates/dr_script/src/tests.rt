@@ -29,7 +29,7 @@ fn reads_a_script(rt: HostRuntime) -> Result<(), Fail> {
     }
     assert_eq!(rt; op_at(&script, 3), Some(Op::Halt));
     assert_eq!(rt; op_at(&script, 4), None);
-    assert_eq!(rt; next_acc(acc, Op::R { addr: 0 }, 7), 7);
+    assert_eq!(rt; next_acc(acc, Op::R { space: 0, addr: 0 }, 7), 7);
     let mut reader = Reader::new(short_script(rt.alloc())?);
     for i in 0..5 {
         assert_eq!(rt; reader.next(), op_at(&script, i), "op {i}");

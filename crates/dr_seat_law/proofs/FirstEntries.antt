@@ -5,7 +5,7 @@ use Rattle.std.proofs.lemmas.Bool.{eqb-true, cases_lt, lt-ltb, le-ltb, false≢t
 use Rattle.dr_types.specs.declared.guest.Guest.{Guest}
 use Rattle.dr_types.specs.declared.guest.SlotRow.{SlotRow}
 use Rattle.dr_types.specs.declared.entry.Entry.{Entry}
-use Rattle.dr_types.specs.Pages.{pages_of_slots, page_count}
+use Rattle.dr_types.specs.Pages.{slot_field, pages_of_slots, page_count}
 use Rattle.dr_types.specs.Scripts.{op_count}
 use Rattle.dr_types.specs.Validity.{IsValid}
 use Rattle.dr_history.specs.declared.event.Event.{Event}
@@ -51,7 +51,7 @@ pub place_exists : (rows : List SlotRow) (page : ℕ) → page < pages_of_slots 
 place_exists [] page lt = absurd (omega arith)
 place_exists (row ∷ rows) page lt =
     elim (cases_lt page row.pages) [
-      | inl l ↦ (record { slot = row.id; offset = page }, let test : nat_lt page row.pages ≡ true = lt-ltb _ _ l in rw test refl)
+      | inl l ↦ (record { slot = slot_field row; offset = page }, let test : nat_lt page row.pages ≡ true = lt-ltb _ _ l in rw test refl)
       | inr g ↦
           let rest = place_exists rows (page - row.pages) (omega arith) in
           let test : nat_lt page row.pages ≡ false = le-ltb _ _ g in
@@ -78,8 +78,8 @@ both_more false a b h = h
 
 writes_ops : (past : List Event) (v : ℕ) → writes v past ≤ ops v past
 writes_ops [] v = omega arith
-writes_ops (Read w i address value ∷ past) v = more (w == v) (writes v past) (ops v past) (writes_ops past v)
-writes_ops (Write w i address len value ∷ past) v = both_more (w == v) (writes v past) (ops v past) (writes_ops past v)
+writes_ops (Read w i space address value ∷ past) v = more (w == v) (writes v past) (ops v past) (writes_ops past v)
+writes_ops (Write w i space address len value ∷ past) v = both_more (w == v) (writes v past) (ops v past) (writes_ops past v)
 writes_ops (Paint w i q byte ∷ past) v = both_more (w == v) (writes v past) (ops v past) (writes_ops past v)
 writes_ops (Local w i ∷ past) v = more (w == v) (writes v past) (ops v past) (writes_ops past v)
 writes_ops (Halted w i ∷ past) v = more (w == v) (writes v past) (ops v past) (writes_ops past v)

@@ -134,22 +134,22 @@ pub fn throttle_us(core: &Core, v: u32) -> u64
     }
 }
 
-/// The page of an address.
+/// The page of an address of space 0.
 pub fn page_at(core: &Core, addr: u64) -> Option<u32>
-    ensures { result ≡ page_of_address core.now.guest addr }
+    ensures { result ≡ page_of_address core.now.guest 0 addr }
 {
     let _recall_pages = core.log().pages();
-    page_of_address(core.log().guest(), addr)
+    page_of_address(core.log().guest(), 0, addr)
 }
 
-/// The value of the 8 bytes at an address.
+/// The value of the 8 bytes at an address of space 0.
 pub fn loaded(core: &Core, addr: u64) -> u64
-    ensures { in_one_page core.now.guest addr 8 ≡ true
-        → IfSome (page_of_address core.now.guest addr) (λ page.
+    ensures { in_one_page core.now.guest 0 addr 8 ≡ true
+        → IfSome (page_of_address core.now.guest 0 addr) (λ page.
         result ≡ loaded (page_bytes core.now.guest page core.now.past) (addr % 4096)) }
 {
     if page_at(core, addr).is_some() && addr % 4096 <= 4088 {
-        core.log().loaded(addr)
+        core.log().loaded(0, addr)
     } else {
         0
     }

@@ -43,6 +43,7 @@ fn store(core: &mut Core, v: u32, i: u32, addr: u64, value: u64) -> Result<(), C
     core.step(Event::Write {
         v,
         i,
+        space: 0,
         addr,
         len: 8,
         value,
@@ -53,12 +54,19 @@ fn store(core: &mut Core, v: u32, i: u32, addr: u64, value: u64) -> Result<(), C
     Ok(())
 }
 
-/// An operation of a vCPU. The sample's scripts have loads, additions, stores of 8 bytes and halts.
+/// An operation of a vCPU. The sample's scripts have loads, additions, stores of 8 bytes and halts,
+/// and its guest has space 0 alone.
 fn execute(core: &mut Core, v: u32, i: u32, op: Op) -> Result<(), CoreFault> {
     match op {
-        Op::R { addr } => {
+        Op::R { addr, .. } => {
             let value = loaded(core, addr);
-            core.step(Event::Read { v, i, addr, value })
+            core.step(Event::Read {
+                v,
+                i,
+                space: 0,
+                addr,
+                value,
+            })
         }
         Op::W { addr, value, .. } => store(core, v, i, addr, value),
         Op::Halt => {

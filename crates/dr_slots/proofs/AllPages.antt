@@ -7,6 +7,7 @@ use Rattle.std.proofs.lemmas.List.Concat.{flat_map-cons}
 use Rattle.std.proofs.lemmas.List.FromFn.{length-map-range_with_len, get_or-map-range_with_len}
 use Rattle.dr_types.specs.declared.entry.Entry.{Entry}
 use Rattle.dr_types.specs.declared.guest.SlotRow.{SlotRow}
+use Rattle.dr_types.specs.Pages.{slot_field}
 use Rattle.dr_slots.specs.Places.{pages_of, all_pages, place_of}
 
 front : (xs ys : List Entry) (k : ℕ) → k < length xs → slice_get (xs ++ ys) k ≡ slice_get xs k
@@ -20,7 +21,7 @@ back (x ∷ xs) ys zero le = absurd (omega arith)
 back (x ∷ xs) ys (suc k) le = back xs ys k (omega arith) ∙ ap (slice_get ys) (omega arith)
 
 abbrev at : SlotRow → ℕ → Entry
-at row offset = record { slot = row.id; offset = offset }
+at row offset = record { slot = slot_field row; offset = offset }
 
 abbrev some : Entry → Option Entry
 some entry = Some entry

@@ -14,20 +14,20 @@ pub fn page_count(guest: &Guest) -> u32
     pages_in(guest.slots.as_slice())
 }
 
-/// The page of a guest frame, where it lies in a slot.
-pub fn page_of_frame(guest: &Guest, frame: u64) -> Option<u32>
+/// The page of a guest frame of a space, where it lies in a slot.
+pub fn page_of_frame(guest: &Guest, space: u32, frame: u64) -> Option<u32>
     requires { page_count guest.now < 2 ^ 32 }
-    ensures is { result ≡ page_of_frame guest.now.slots frame }
+    ensures is { result ≡ page_of_frame guest.now.slots space frame }
     ensures within { IfSome result (λ page. page < page_count guest.now) }
 {
-    frame_page(guest.slots.as_slice(), frame)
+    frame_page(guest.slots.as_slice(), space, frame)
 }
 
-/// The page that an address lies in, where it lies in a slot.
-pub fn page_of_address(guest: &Guest, address: u64) -> Option<u32>
+/// The page that an address of a space lies in, where it lies in a slot.
+pub fn page_of_address(guest: &Guest, space: u32, address: u64) -> Option<u32>
     requires { page_count guest.now < 2 ^ 32 }
-    ensures is { result ≡ page_of_address guest.now address }
+    ensures is { result ≡ page_of_address guest.now space address }
     ensures within { IfSome result (λ page. page < page_count guest.now) }
 {
-    page_of_frame(guest, address / 4096)
+    page_of_frame(guest, space, address / 4096)
 }

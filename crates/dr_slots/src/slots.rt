@@ -15,15 +15,16 @@ pub struct Slots {
 }
 
 impl Model for Slots {
-    ghost use Rattle.std.specs.Prelude.{List, ◌≤◌};
+    ghost use Rattle.std.specs.Prelude.{List, ◌≤◌, ◌<◌, ◌^◌, All};
     ghost use Rattle.dr_types.specs.declared.guest.SlotRow.{SlotRow};
-    ghost use Rattle.dr_types.specs.Pages.{pages_of_slots};
+    ghost use Rattle.dr_types.specs.Pages.{pages_of_slots, slot_field};
 
     ghost Value = { List SlotRow };
 
     ghost view = { λ slots. slots.rows.items };
 
-    ghost invariant = { λ slots. pages_of_slots slots.rows.items ≤ 16384 };
+    ghost invariant = { λ slots. (pages_of_slots slots.rows.items ≤ 16384)
+        × All (λ row. slot_field row < 2 ^ 32) slots.rows.items };
 }
 
 impl Slots {
@@ -37,20 +38,20 @@ impl Slots {
         })
     }
 
-    /// The page that an address lies in, in bytes; `None` where it lies in no slot.
-    pub fn page_of(&self, addr: u64) -> Option<u32>
-        ensures is { result ≡ page_of_frame self.now (addr / 4096) }
+    /// The page that an address of a space, in bytes, lies in; `None` where it lies in no slot.
+    pub fn page_of(&self, space: u32, addr: u64) -> Option<u32>
+        ensures is { result ≡ page_of_frame self.now space (addr / 4096) }
         ensures within { IfSome result (λ page. page < pages_of_slots self.now) }
     {
-        self.page_of_frame(addr / 4096)
+        self.page_of_frame(space, addr / 4096)
     }
 
-    /// The page of a guest frame; `None` where it lies in no slot.
-    pub fn page_of_frame(&self, frame: u64) -> Option<u32>
-        ensures is { result ≡ page_of_frame self.now frame }
+    /// The page of a guest frame of a space; `None` where it lies in no slot.
+    pub fn page_of_frame(&self, space: u32, frame: u64) -> Option<u32>
+        ensures is { result ≡ page_of_frame self.now space frame }
         ensures within { IfSome result (λ page. page < pages_of_slots self.now) }
     {
-        frame_page(&self.rows, frame)
+        frame_page(&self.rows, space, frame)
     }
 
     /// Where a page lies.
@@ -61,7 +62,8 @@ impl Slots {
         page_place(&self.rows, page)
     }
 
-    /// The page of an offset in a slot; `None` where the slot is missing or has fewer pages.
+    /// The page of an offset in the slot of this field; `None` where the slot is missing or has
+    /// fewer pages.
     pub fn page_at(&self, slot: u32, offset: u64) -> Option<u32>
         ensures { result ≡ page_at_place self.now slot offset }
     {

@@ -78,8 +78,8 @@ rooms rows n past is few = subst (λ (xs : List Vcpu). All HasRoom xs) (sym is) 
 -- the vCPU and the page that an event names are in the guest
 pub vcpu_within : (guest : Guest) (past : List Event) (e : Event) → names_exist guest past e ≡ true → IsWithin (vcpu_count guest) e
 unfolding names_exist
-vcpu_within guest past (Read v i a x) h = ltb-true v (vcpu_count guest) (and_parts _ _ h).0
-vcpu_within guest past (Write v i a l x) h = ltb-true v (vcpu_count guest) (and_parts _ _ h).0
+vcpu_within guest past (Read v i space a x) h = ltb-true v (vcpu_count guest) (and_parts _ _ h).0
+vcpu_within guest past (Write v i space a l x) h = ltb-true v (vcpu_count guest) (and_parts _ _ h).0
 vcpu_within guest past (Paint v i q b) h = ltb-true v (vcpu_count guest) (and_parts _ _ h).0
 vcpu_within guest past (Local v i) h = ltb-true v (vcpu_count guest) h
 vcpu_within guest past (Halted v i) h = ltb-true v (vcpu_count guest) h
@@ -102,7 +102,7 @@ page_within guest past e h = tt
 
 stores_within : (guest : Guest) (past : List Event) (e : Event) → names_exist guest past e ≡ true → StoresWithin e
 unfolding names_exist
-stores_within guest past (Write v i a l x) h = leb-true (a % 4096 + l) 4096 (and_parts _ _ (and_parts _ _ h).1).1
+stores_within guest past (Write v i space a l x) h = leb-true (a % 4096 + l) 4096 (and_parts _ _ (and_parts _ _ h).1).1
 stores_within guest past e h = tt
 
 pub memory_sized : (guest : Guest) (past : List Event) (it : State) → IsStateOf guest past it → length it.memory.pages ≡ page_count guest

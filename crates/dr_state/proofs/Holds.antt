@@ -93,8 +93,8 @@ pub throttled : (guest : Guest) (past : List Event) (v us last : ℕ) (next : Op
 throttled guest past v us last next list h = record { is_next = ap (one_after v) h.is_next; is_last = h.is_last; sized = h.sized; are_held = h.are_held }
 
 pub unseen : (guest : Guest) (past : List Event) (e : Event) (last : ℕ) (next : Option ℕ) (list : List Throttle) → IsUnheld e → AreHeld guest past next last list → AreHeld guest (e ∷ past) None last list
-unseen guest past (Read v i a x) last next list kind h = record { is_next = refl; is_last = h.is_last; sized = h.sized; are_held = h.are_held }
-unseen guest past (Write v i a l x) last next list kind h = record { is_next = refl; is_last = h.is_last; sized = h.sized; are_held = h.are_held }
+unseen guest past (Read v i space a x) last next list kind h = record { is_next = refl; is_last = h.is_last; sized = h.sized; are_held = h.are_held }
+unseen guest past (Write v i space a l x) last next list kind h = record { is_next = refl; is_last = h.is_last; sized = h.sized; are_held = h.are_held }
 unseen guest past (Paint v i q b) last next list kind h = record { is_next = refl; is_last = h.is_last; sized = h.sized; are_held = h.are_held }
 unseen guest past (Local v i) last next list kind h = record { is_next = refl; is_last = h.is_last; sized = h.sized; are_held = h.are_held }
 unseen guest past (Halted v i) last next list kind h = record { is_next = refl; is_last = h.is_last; sized = h.sized; are_held = h.are_held }

@@ -81,8 +81,8 @@ spanned_row row = record row { span_pushes = 0 }
 
 -- the event is an operation of the vCPU after which it goes on
 abbrev pub IsOperation : ℕ → Event → Type 0
-IsOperation v (Read w i address value) = w ≡ v
-IsOperation v (Write w i address len value) = w ≡ v
+IsOperation v (Read w i space address value) = w ≡ v
+IsOperation v (Write w i space address len value) = w ≡ v
 IsOperation v (Paint w i page byte) = w ≡ v
 IsOperation v (Local w i) = w ≡ v
 IsOperation v e = ⊥
@@ -106,8 +106,8 @@ IsUnseen e = ⊥
 
 -- the vCPU that an event names is below n
 abbrev pub IsWithin : ℕ → Event → Type 0
-IsWithin n (Read w i address value) = w < n
-IsWithin n (Write w i address len value) = w < n
+IsWithin n (Read w i space address value) = w < n
+IsWithin n (Write w i space address len value) = w < n
 IsWithin n (Paint w i page byte) = w < n
 IsWithin n (Local w i) = w < n
 IsWithin n (Halted w i) = w < n

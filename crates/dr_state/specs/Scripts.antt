@@ -25,8 +25,8 @@ IsRunning guest past it = AreRunning guest past it.readers.items it.registers.it
 
 -- the event is an operation of the vCPU that loads this
 abbrev pub IsOpLoading : ℕ → ℕ → Event → Type 0
-IsOpLoading v loaded (Read w i address value) = (w ≡ v) × (loaded ≡ value)
-IsOpLoading v loaded (Write w i address len value) = (w ≡ v) × (loaded ≡ 0)
+IsOpLoading v loaded (Read w i space address value) = (w ≡ v) × (loaded ≡ value)
+IsOpLoading v loaded (Write w i space address len value) = (w ≡ v) × (loaded ≡ 0)
 IsOpLoading v loaded (Paint w i page byte) = (w ≡ v) × (loaded ≡ 0)
 IsOpLoading v loaded (Local w i) = (w ≡ v) × (loaded ≡ 0)
 IsOpLoading v loaded (Halted w i) = (w ≡ v) × (loaded ≡ 0)
@@ -34,8 +34,8 @@ IsOpLoading v loaded e = ⊥
 
 -- the event is no operation
 abbrev pub IsNoOp : Event → Type 0
-IsNoOp (Read w i address value) = ⊥
-IsNoOp (Write w i address len value) = ⊥
+IsNoOp (Read w i space address value) = ⊥
+IsNoOp (Write w i space address len value) = ⊥
 IsNoOp (Paint w i page byte) = ⊥
 IsNoOp (Local w i) = ⊥
 IsNoOp (Halted w i) = ⊥

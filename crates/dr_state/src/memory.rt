@@ -22,7 +22,7 @@ pub fn make_room(store: &mut PageStore, guest: &Guest, e: &Event) -> Result<(), 
     ensures ok { OnOk result (StoreFits guest.now e.now store.new) }
 {
     match e {
-        Event::Write { addr, .. } => match page_of_address(guest, *addr) {
+        Event::Write { space, addr, .. } => match page_of_address(guest, *space, *addr) {
             Some(page) => store.make_room(page),
             None => Ok(()),
         },
@@ -44,11 +44,12 @@ pub fn take(store: &mut PageStore, guest: &Guest, e: &Event)
 {
     match e {
         Event::Write {
+            space,
             addr,
             len,
             value,
             ..
-        } => match page_of_address(guest, *addr) {
+        } => match page_of_address(guest, *space, *addr) {
             Some(page) => stored(store, page, (*addr % 4096) as u32, *len, *value),
             None => unseen(store),
         },
@@ -61,10 +62,10 @@ fn stored(store: &mut PageStore, page: u32, at: u32, len: u32, value: u64)
     requires page { page < length store.old.pages }
     requires room { has_room page store.old ≡ true }
     requires within { at + len ≤ 4096 }
-    ensures pages { (guest : Guest) (past : List Event) (v i addr : ℕ)
-        → page_of_address guest addr ≡ Some page → addr % 4096 ≡ at
+    ensures pages { (guest : Guest) (past : List Event) (v i space addr : ℕ)
+        → page_of_address guest space addr ≡ Some page → addr % 4096 ≡ at
         → store.old.pages ≡ memory guest past
-        → store.new.pages ≡ memory guest (Event.Write v i addr len value ∷ past) }
+        → store.new.pages ≡ memory guest (Event.Write v i space addr len value ∷ past) }
     ensures rooms { store.new.rooms ≡ store.old.rooms }
 {
     store.write(page, at, len, value);

@@ -10,8 +10,8 @@ use Rattle.dr_history.specs.declared.event.Event.{Event}
 use Rattle.dr_history.specs.declared.event.Event.TheVariants.{Start, Read, Write, Paint, Local, Halted, Opened, Filled, Pushed, Exited, Deposited, Reset, Flushed, Asked, Synced, Copied, Throttled, Stopped, Switched}
 use Rattle.dr_history.specs.Lines.{FitsLine, why_word, event_words}
 use Rattle.dr_text_law.specs.Events.{why_of, event_of}
-use Rattle.dr_text_law.proofs.Words.{u32_again, u64_again, numbers_again, is_byte, byte_again, bytes_again, low_fit, value_again, low_long}
-use Rattle.dr_text_law.proofs.Lexing.{AllAbove, AreWords, written, wide, narrow, number_words, hex_word}
+use Rattle.dr_text_law.proofs.Words.{u32_again, u64_again, spaced_number_again, numbers_again, is_byte, byte_again, bytes_again, low_fit, value_again, low_long}
+use Rattle.dr_text_law.proofs.Lexing.{AllAbove, AreWords, written, spaced_above, wide, narrow, number_words, hex_word}
 
 -- the word for why a vCPU left the guest says it
 why_again : (why : Why) → why_of (why_word why) ≡ Some why
@@ -22,18 +22,18 @@ why_again reason.Full = refl
 why_again reason.Yield = refl
 
 -- the words of a Write say it
-write_again : (v i address len value : ℕ) → FitsLine (Write v i address len value) → event_of (event_words (Write v i address len value)) ≡ Some (Write v i address len value)
-write_again v i address len value is =
-    let some : nat_le 1 len ≡ true = le-leb _ _ is.3 in
-    let few : nat_le len 8 ≡ true = le-leb _ _ is.4 in
+write_again : (v i space address len value : ℕ) → FitsLine (Write v i space address len value) → event_of (event_words (Write v i space address len value)) ≡ Some (Write v i space address len value)
+write_again v i space address len value is =
+    let some : nat_le 1 len ≡ true = le-leb _ _ is.4 in
+    let few : nat_le len 8 ≡ true = le-leb _ _ is.5 in
     let bytes = bytes_again (low_bytes len value) (low_fit len value) in
-    rw (u32_again v is.0, u32_again i is.1, u64_again address is.2, bytes, low_long len value is.4, some, few, value_again len value is.3 is.4 is.5) refl
+    rw (u32_again v is.0, u32_again i is.1, spaced_number_again space address is.2 is.3, bytes, low_long len value is.5, some, few, value_again len value is.4 is.5 is.6) refl
 
 -- what an event's words say is that event
 pub event_again : (e : Event) → FitsLine e → event_of (event_words e) ≡ Some e
 event_again (Start at) is = rw (u64_again at is) refl
-event_again (Read v i address value) is = rw (u32_again v is.0, u32_again i is.1, u64_again address is.2, u64_again value is.3) refl
-event_again (Write v i address len value) is = write_again v i address len value is
+event_again (Read v i space address value) is = rw (u32_again v is.0, u32_again i is.1, spaced_number_again space address is.2 is.3, u64_again value is.4) refl
+event_again (Write v i space address len value) is = write_again v i space address len value is
 event_again (Paint v i page byte) is = rw (u32_again v is.0, u32_again i is.1, u32_again page is.2, byte_again byte is.3) refl
 event_again (Local v i) is = rw (u32_again v is.0, u32_again i is.1) refl
 event_again (Halted v i) is = rw (u32_again v is.0, u32_again i is.1) refl
@@ -64,8 +64,8 @@ why_plain reason.Yield = written (codes "yield") refl
 -- no space and no line feed stands in an event's words
 pub event_plain : (e : Event) → FitsLine e → AreWords (event_words e)
 event_plain (Start at) is = (written (codes "start") refl, (wide at is, tt))
-event_plain (Read v i address value) is = (written (codes "r") refl, (narrow v is.0, (narrow i is.1, (wide address is.2, (wide value is.3, tt)))))
-event_plain (Write v i address len value) is = (written (codes "w") refl, (narrow v is.0, (narrow i is.1, (wide address is.2, (hex_word (low_bytes len value) (low_fit len value), tt)))))
+event_plain (Read v i space address value) is = (written (codes "r") refl, (narrow v is.0, (narrow i is.1, (spaced_above space address is.3, (wide value is.4, tt)))))
+event_plain (Write v i space address len value) is = (written (codes "w") refl, (narrow v is.0, (narrow i is.1, (spaced_above space address is.3, (hex_word (low_bytes len value) (low_fit len value), tt)))))
 event_plain (Paint v i page byte) is = (written (codes "f") refl, (narrow v is.0, (narrow i is.1, (narrow page is.2, (hex_word (byte ∷ []) (is_byte byte is.3), tt)))))
 event_plain (Local v i) is = (written (codes "l") refl, (narrow v is.0, (narrow i is.1, tt)))
 event_plain (Halted v i) is = (written (codes "h") refl, (narrow v is.0, (narrow i is.1, tt)))

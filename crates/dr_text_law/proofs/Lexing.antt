@@ -1,6 +1,7 @@
 -- The words of a line that was written, and what of them can be read.
-use Rattle.std.proofs.Common.{◌≡◌, ℕ, ◌^◌, ◌<◌, ◌≤◌, Bool, true, false, ◌&&◌, List, [], ◌∷◌, ◌++◌, map, refl, ap, sym, ◌∙◌, arith, inl, inr}
-use Rattle.std.specs.Prelude.{nat_lt, nat_le, All, decimal}
+use Rattle.std.proofs.Common.{◌≡◌, ℕ, ◌^◌, ◌<◌, ◌≤◌, Bool, true, false, cond, ◌&&◌, List, [], ◌∷◌, ◌++◌, map, refl, ap, sym, ◌∙◌, arith, inl, inr}
+use Rattle.std.specs.Prelude.{◌==◌, nat_lt, nat_le, All, codes, decimal}
+use Rattle.dr_types.specs.Spaces.{spaced_word}
 use Rattle.std.specs.Char.{digit_value}
 use Rattle.std.specs.List.{slice_split, onto_first, join_with_byte, list_all}
 use Rattle.std.specs.Str.Parse.{AllDigits}
@@ -98,6 +99,14 @@ digits_above (c ∷ cs) digits = (above_at c digits.0, digits_above cs digits.1)
 -- the word of a number of 64 bits, and of 32
 pub wide : (n : ℕ) → n < 2 ^ 64 → AllAbove (decimal n)
 wide n fits = digits_above (decimal n) (decimal_is_IsNumeral n fits).0.1
+
+above_case : (plain : Bool) (n : ℕ) → n < 2 ^ 64 → AllAbove (cond plain [] (codes "1:") ++ decimal n)
+above_case true n fits = wide n fits
+above_case false n fits = (omega arith, (omega arith, wide n fits))
+
+-- and of an address with its space
+pub spaced_above : (space n : ℕ) → n < 2 ^ 64 → AllAbove (spaced_word space n)
+spaced_above space n fits = above_case (space == 0) n fits
 
 pub narrow : (n : ℕ) → n < 2 ^ 32 → AllAbove (decimal n)
 narrow n fits = wide n (omega arith)

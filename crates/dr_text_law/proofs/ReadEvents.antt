@@ -11,7 +11,7 @@ use Rattle.dr_history.specs.Lines.{FitsLine, why_word, event_words}
 use Rattle.dr_text_law.specs.Words.{all_numbers, one_byte, bytes_of}
 use Rattle.dr_text_law.specs.Events.{why_of, start_of, read_of, write_of, paint_of, local_of, halted_of, opened_of, filled_of, pushed_of, exited_of, deposited_of, reset_of, alone, asked_of, synced_of, copied_of, throttled_of, event_named, event_of}
 use Rattle.dr_text_law.proofs.Lexing.{both}
-use Rattle.dr_text_law.proofs.ReadWords.{when, steps, takes, numbers_say, one_byte_says, bytes_say, low_says, equal}
+use Rattle.dr_text_law.proofs.ReadWords.{takes_spaced, when, steps, takes, numbers_say, one_byte_says, bytes_say, low_says, equal}
 
 -- these words are the event's, which fits
 pub record Says (words : List (List ℕ)) (e : Event) : Type 0 where
@@ -43,9 +43,9 @@ read_says (a ∷ b ∷ c ∷ []) e is = absurd cc
 read_says (v ∷ i ∷ address ∷ value ∷ []) e is =
     let a = takes 32 v _ _ is in
     let b = takes 32 i _ _ a.next in
-    let c = takes 64 address _ _ b.next in
+    let c = takes_spaced address _ _ b.next in
     let d = takes 64 value _ _ c.next in
-    subst (Says (codes "r" ∷ v ∷ i ∷ address ∷ value ∷ [])) (some_is d.next) (record { words_are = rw (a.word_is, b.word_is, c.word_is, d.word_is) refl; fits = (a.fits, b.fits, c.fits, d.fits) })
+    subst (Says (codes "r" ∷ v ∷ i ∷ address ∷ value ∷ [])) (some_is d.next) (record { words_are = rw (a.word_is, b.word_is, c.word_is, d.word_is) refl; fits = (a.fits, b.fits, c.space, c.fits, d.fits) })
 read_says (a ∷ b ∷ c ∷ d ∷ g ∷ words) e is = absurd cc
 
 -- the words after `l` that say an event
@@ -206,7 +206,7 @@ write_says (a ∷ b ∷ c ∷ []) e is = absurd cc
 write_says (v ∷ i ∷ address ∷ hex ∷ []) e is =
     let a = takes 32 v _ _ is in
     let b = takes 32 i _ _ a.next in
-    let c = takes 64 address _ _ b.next in
+    let c = takes_spaced address _ _ b.next in
     let d = steps (bytes_of hex) _ _ c.next in
     let tested = when (nat_le 1 (length d.value) && nat_le (length d.value) 8) _ e d.next in
     let range = both (nat_le 1 (length d.value)) (nat_le (length d.value) 8) tested.0 in
@@ -215,7 +215,7 @@ write_says (v ∷ i ∷ address ∷ hex ∷ []) e is =
     let bytes = bytes_say hex d.value d.is in
     let value = low_says d.value high bytes.1 in
     subst (Says (codes "w" ∷ v ∷ i ∷ address ∷ hex ∷ [])) tested.1
-    (record { words_are = rw (a.word_is, b.word_is, c.word_is, value.0, bytes.0) refl; fits = (a.fits, b.fits, c.fits, low, high, value.1) })
+    (record { words_are = rw (a.word_is, b.word_is, c.word_is, value.0, bytes.0) refl; fits = (a.fits, b.fits, c.space, c.fits, low, high, value.1) })
 write_says (a ∷ b ∷ c ∷ d ∷ g ∷ words) e is = absurd cc
 
 -- the words after `sync` that say an event

@@ -16,7 +16,9 @@ use Rattle.hex.specs.declared.error.FromHexError.{FromHexError}
 use Rattle.hex.specs.Hex.{IsBytes, encode_lower, decode_of}
 use Rattle.hex.proofs.HexLemmas.{decode_of-ok}
 use Rattle.dr_types.specs.Lines.{low_bytes}
-use Rattle.dr_text_law.specs.Words.{◌>>=◌, said_so, number, all_numbers, bytes_of, only_byte, one_byte, value_of}
+use Rattle.dr_types.specs.Spaces.{space_prefix, spaced_word, spaced}
+use Rattle.dr_types.proofs.Spaces.{spaced_says, spaced_few}
+use Rattle.dr_text_law.specs.Words.{◌>>=◌, said_so, number, spaced_number, all_numbers, bytes_of, only_byte, one_byte, value_of}
 use Rattle.dr_text_law.proofs.Lexing.{both}
 
 -- bytes that test as equal are the same
@@ -64,6 +66,30 @@ takes bits word f y is =
     let step = steps (number bits word) f y is in
     let says = number_says bits word step.value step.is in
     record { value = step.value; word_is = says.0; fits = says.1; next = step.next }
+
+-- the same, where the first step is the word of an address with its space
+pub record TakesSpaced {B : Type 0} (word : List ℕ) (f : ℕ × ℕ → Option B) (y : B) : Type 0 where
+  pub value : ℕ × ℕ
+  pub word_is : spaced_word value.0 value.1 ≡ word
+  pub space : value.0 ≤ 1
+  pub fits : value.1 < 2 ^ 64
+  pub next : f value ≡ Some y
+
+pub takes_spaced : {B : Type 0} (word : List ℕ) (f : ℕ × ℕ → Option B) (y : B) → (spaced_number word >>= f) ≡ Some y → TakesSpaced word f y
+takes_spaced word f y is =
+    let step = steps (spaced_number word) f y is in
+    let n = steps (number 64 (spaced 2 word).1) _ _ step.is in
+    let says = number_says 64 (spaced 2 word).1 n.value n.is in
+    let pair : ℕ × ℕ = ((spaced 2 word).0, n.value) in
+    let same : pair ≡ step.value = cc n.next in
+    let whole : spaced_word pair.0 pair.1 ≡ word = ap (λ (rest : List ℕ). space_prefix (spaced 2 word).0 ++ rest) says.0 ∙ spaced_says 2 word in
+    record {
+      value = step.value;
+      word_is = subst (λ (x : ℕ × ℕ). spaced_word x.0 x.1 ≡ word) same whole;
+      space = subst (λ (x : ℕ × ℕ). x.0 ≤ 1) same (spaced_few 2 word);
+      fits = subst (λ (x : ℕ × ℕ). x.1 < 2 ^ 64) same says.1;
+      next = step.next;
+    }
 
 -- a list that was given is the one that was read
 list_is : {xs ys : List ℕ} → Some xs ≡ Some ys → xs ≡ ys

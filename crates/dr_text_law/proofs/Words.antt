@@ -12,7 +12,9 @@ use Rattle.std.proofs.lemmas.List.Elements.{All-head, All-tail}
 use Rattle.hex.specs.Hex.{IsBytes, encode_lower}
 use Rattle.hex.proofs.HexLemmas.{decode_of-encode_lower}
 use Rattle.dr_types.specs.Lines.{low_bytes}
-use Rattle.dr_text_law.specs.Words.{◌>>=◌, said_so, number, all_numbers, bytes_of, only_byte, one_byte, value_of}
+use Rattle.dr_types.specs.Spaces.{spaced_word}
+use Rattle.dr_types.proofs.Spaces.{spaced_again}
+use Rattle.dr_text_law.specs.Words.{◌>>=◌, said_so, number, number_in_space, spaced_number, all_numbers, bytes_of, only_byte, one_byte, value_of}
 
 -- bytes are the same as themselves
 same : (bs : List ℕ) → bytes_eq bs bs ≡ true
@@ -35,6 +37,11 @@ u32_again n fits = number_again 32 n fits (omega arith)
 
 pub u64_again : (n : ℕ) → n < 2 ^ 64 → number 64 (decimal n) ≡ Some n
 u64_again n fits = number_again 64 n fits fits
+
+-- the word of an address with its space says both
+pub spaced_number_again : (space n : ℕ) → space ≤ 1 → n < 2 ^ 64 → spaced_number (spaced_word space n) ≡ Some (space, n)
+spaced_number_again space n few fits =
+    ap number_in_space (spaced_again 2 space n (omega arith) (omega arith) (omega (arith, few)) fits) ∙ rw (u64_again n fits) refl
 
 -- the words of numbers say them
 pub numbers_again : (ns : List ℕ) → All (λ n. n < 2 ^ 32) ns → all_numbers 32 (map decimal ns) ≡ Some ns

@@ -10,7 +10,8 @@ use Rattle.dr_history.specs.declared.event.Event.TheVariants.{Asked, Synced, Cop
 use Rattle.dr_history.specs.declared.event.Event.TheVariants.{Stopped, Switched}
 use Rattle.dr_types.specs.declared.guest.Why.{Why}
 use Rattle.dr_types.specs.declared.guest.Why.TheVariants as reason
-use Rattle.dr_text_law.specs.Words.{◌>>=◌, number, all_numbers, one_byte, bytes_of, value_of}
+use Rattle.dr_text_law.specs.Words.{◌>>=◌, number, spaced_number, all_numbers, one_byte}
+use Rattle.dr_text_law.specs.Words.{bytes_of, value_of}
 
 -- why a vCPU left the guest, by its word
 abbrev pub why_of : List ℕ → Option Why
@@ -34,9 +35,9 @@ abbrev pub read_of : List (List ℕ) → Option Event
 read_of (v ∷ i ∷ address ∷ value ∷ []) = do
   v ← number 32 v
   i ← number 32 i
-  address ← number 64 address
+  address ← spaced_number address
   value ← number 64 value
-  Some (Read v i address value)
+  Some (Read v i address.0 address.1 value)
 read_of words = None
 
 -- the words after `w`: V I ADDR HEX
@@ -44,10 +45,10 @@ abbrev pub write_of : List (List ℕ) → Option Event
 write_of (v ∷ i ∷ address ∷ hex ∷ []) = do
   v ← number 32 v
   i ← number 32 i
-  address ← number 64 address
+  address ← spaced_number address
   bytes ← bytes_of hex
   if nat_le 1 (length bytes) && nat_le (length bytes) 8
-      then Some (Write v i address (length bytes) (value_of bytes))
+      then Some (Write v i address.0 address.1 (length bytes) (value_of bytes))
       else None
 write_of words = None
 

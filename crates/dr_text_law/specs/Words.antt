@@ -6,6 +6,7 @@ use Rattle.std.specs.Result.{result_ok}
 use Rattle.std.specs.Str.{bytes_eq}
 use Rattle.std.specs.Str.Parse.{digits_value}
 use Rattle.hex.specs.Hex.{encode_lower, decode_of}
+use Rattle.dr_types.specs.Spaces.{spaced}
 
 -- the next step of a reading, where the first gave a value
 infixl 10 ◌>>=◌
@@ -19,6 +20,16 @@ said_so bound spelt n word = if nat_lt n bound && bytes_eq spelt word then Some 
 -- a decimal number of so many bits, without leading zeros
 abbrev pub number : ℕ → List ℕ → Option ℕ
 number bits word = said_so (2 ^ bits) (decimal (digits_value 10 word)) (digits_value 10 word) word
+
+-- the number that is left of a word that names its space
+abbrev pub number_in_space : ℕ × List ℕ → Option (ℕ × ℕ)
+number_in_space split = do
+  n ← number 64 split.1
+  Some (split.0, n)
+
+-- an address with its space: the prefix `1:` names space 1, and none space 0
+abbrev pub spaced_number : List ℕ → Option (ℕ × ℕ)
+spaced_number word = number_in_space (spaced 2 word)
 
 -- decimal numbers of so many bits
 abbrev pub all_numbers : ℕ → List (List ℕ) → Option (List ℕ)

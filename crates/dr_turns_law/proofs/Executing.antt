@@ -64,10 +64,10 @@ op_fits guest v i o valid is =
 
 -- the page that an operation writes is one of the guest
 pub page_within : (guest : Guest) (o : Op) (page : ℕ) → op_page guest o ≡ Some page → OpFits guest o → page < page_count guest
-page_within guest (op.W address len value) page is fits = frame_page guest _ page is
-page_within guest (op.F frame byte) page is fits = frame_page guest frame page is
-page_within guest (op.S address) page is fits = frame_page guest _ page is
-page_within guest (op.R address) page is fits = cc
+page_within guest (op.W space address len value) page is fits = frame_page guest space _ page is
+page_within guest (op.F space frame byte) page is fits = frame_page guest space frame page is
+page_within guest (op.S space address) page is fits = frame_page guest space _ page is
+page_within guest (op.R space address) page is fits = cc
 page_within guest (op.A n) page is fits = cc
 page_within guest (op.Nap us) page is fits = cc
 page_within guest op.Halt page is fits = cc

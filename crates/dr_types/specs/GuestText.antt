@@ -10,6 +10,7 @@ use Rattle.dr_types.specs.declared.guest.Item.{Item}
 use Rattle.dr_types.specs.declared.guest.Item.TheVariants.{One, Rep}
 use Rattle.dr_types.specs.declared.guest.Guest.{Guest}
 use Rattle.dr_types.specs.Lines.{named, lines_text, low_bytes}
+use Rattle.dr_types.specs.Spaces.{spaced_word}
 
 abbrev pub settings_lines : Settings → List (List (List ℕ))
 settings_lines s =
@@ -20,15 +21,17 @@ settings_lines s =
     ∷ named (codes "quota") s.quota ∷ []
 
 abbrev pub slot_line : SlotRow → List (List ℕ)
-slot_line row = codes "slot" ∷ decimal row.id ∷ decimal row.base ∷ decimal row.pages ∷ []
+slot_line row =
+    codes "slot" ∷ spaced_word row.space row.id ∷ decimal row.base ∷ decimal row.pages ∷ []
 
 abbrev pub op_line : Op → List (List ℕ)
-op_line (W address len value) =
-    codes "w" ∷ decimal address ∷ encode_lower (low_bytes len value) ∷ []
-op_line (F frame byte) = codes "f" ∷ decimal frame ∷ encode_lower (byte ∷ []) ∷ []
-op_line (R address) = named (codes "r") address
+op_line (W space address len value) =
+    codes "w" ∷ spaced_word space address ∷ encode_lower (low_bytes len value) ∷ []
+op_line (F space frame byte) =
+    codes "f" ∷ spaced_word space frame ∷ encode_lower (byte ∷ []) ∷ []
+op_line (R space address) = codes "r" ∷ spaced_word space address ∷ []
 op_line (A n) = named (codes "a") n
-op_line (S address) = named (codes "s") address
+op_line (S space address) = codes "s" ∷ spaced_word space address ∷ []
 op_line (Nap us) = named (codes "nap") us
 op_line Halt = codes "halt" ∷ []
 
@@ -42,7 +45,7 @@ script_lines items = (codes "vcpu" ∷ []) ∷ flat_map item_lines items
 
 abbrev pub guest_lines : Guest → List (List (List ℕ))
 guest_lines guest =
-    (codes "dirtyguest" ∷ codes "1" ∷ []) ∷ settings_lines guest.settings
+    named (codes "dirtyguest") guest.version ∷ settings_lines guest.settings
     ++ map slot_line guest.slots ++ flat_map script_lines guest.scripts
 
 abbrev pub guest_text : Guest → List ℕ

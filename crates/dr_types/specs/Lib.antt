@@ -6,3 +6,4 @@ pub mod Validity
 pub mod Lines
 pub mod GuestText
 pub mod Ports
+pub mod Spaces

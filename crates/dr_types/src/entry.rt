@@ -1,7 +1,8 @@
 ghost use Rattle.std.specs.Prelude.{◌≡◌, ◌≤◌};
 ghost use Rattle.dr_types.specs.Words.{first_word, flags_in, entry_in};
 
-/// A dirty page as a ring entry names it: its slot, and its offset in pages inside the slot.
+/// A dirty page as a ring entry names it: its slot field, which is the address space of its slot
+/// times 65536 and the id of the slot, and its offset in pages inside the slot.
 #[derive(Clone, Copy, Debug, PartialEq, Eq)]
 pub struct Entry {
     pub slot: u32,

@@ -18,11 +18,11 @@ pub enum What {
 }
 
 /// Why a guest file is refused: its first fault in the order of its lines, which are numbered from
-/// 1. `no` is a line's number, `a` and `b` are slot ids.
+/// 1. `no` is a line's number, `a` and `b` are slot fields: a slot's space times 65536, and its id.
 #[derive(Clone, Copy, Debug, PartialEq, Eq, Error)]
 pub enum FileFault {
-    /// The first line isn't `dirtyguest 1`.
-    #[error("line {no}: expected `dirtyguest 1`")]
+    /// The first line is neither `dirtyguest 1` nor `dirtyguest 2`.
+    #[error("line {no}: expected `dirtyguest 1` or `dirtyguest 2`")]
     Magic { no: u64 },
     /// The line may not stand here, or has the wrong number of words; or the file ends too early.
     #[error("line {no}: this line may not stand here, or has the wrong number of words")]
@@ -36,13 +36,13 @@ pub enum FileFault {
     /// Reserve and buffer leave no room in a ring.
     #[error("line {no}: reserve and buffer leave no room in the ring")]
     Reserve { no: u64 },
-    /// An earlier slot has this id.
+    /// An earlier slot has this space and id.
     #[error("line {no}: a slot with this id stands above")]
     SlotTwice { no: u64 },
-    /// Two slots share a frame; a is the earlier one.
+    /// Two slots of a space share a frame; a is the earlier one.
     #[error("slots {a} and {b} overlap")]
     Overlap { a: u32, b: u32 },
-    /// An op's page lies in no slot.
+    /// An op's page lies in no slot of its space.
     #[error("line {no}: the page lies in no slot")]
     Unmapped { no: u64 },
     /// An op's bytes don't lie in one page.

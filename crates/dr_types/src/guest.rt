@@ -3,9 +3,11 @@ ghost use Rattle.std.specs.Prelude.{◌≡◌, ◌-◌};
 use crate::list::Listed;
 use std::alloc::AllocError;
 
-/// A memory slot: its id, its first guest frame, and how many pages of 4,096 bytes it has.
+/// A memory slot: its address space (0 or 1), its id there, its first guest frame in that space,
+/// and how many pages of 4,096 bytes it has.
 #[derive(Clone, Copy, Debug, PartialEq, Eq)]
 pub struct SlotRow {
+    pub space: u32,
     pub id: u32,
     pub base: u64,
     pub pages: u32,
@@ -36,22 +38,41 @@ impl Settings {
     }
 }
 
-/// One op of a vCPU's script. Addresses are guest-physical, in bytes; `gfn` is a guest frame
-/// number.
+/// One op of a vCPU's script. Addresses are guest-physical, in bytes, of the address space that is
+/// named with them; `gfn` is a guest frame number.
 #[derive(Clone, Copy, Debug, PartialEq, Eq)]
 pub enum Op {
     /// Stores the low `len` bytes of the value, the least first.
-    W { addr: u64, len: u32, value: u64 },
+    W {
+        space: u32,
+        addr: u64,
+        len: u32,
+        value: u64,
+    },
     /// Stores the byte in all of the frame's page.
-    F { gfn: u64, byte: u8 },
+    F {
+        space: u32,
+        gfn: u64,
+        byte: u8,
+    },
     /// Loads 8 bytes, the least first, into the register.
-    R { addr: u64 },
+    R {
+        space: u32,
+        addr: u64,
+    },
     /// Adds to the register modulo 2^64.
-    A { n: u64 },
+    A {
+        n: u64,
+    },
     /// Stores the register in 8 bytes, the least first.
-    S { addr: u64 },
+    S {
+        space: u32,
+        addr: u64,
+    },
     /// Sleeps for so many microseconds.
-    Nap { us: u32 },
+    Nap {
+        us: u32,
+    },
     /// Ends the script.
     Halt,
 }
@@ -77,9 +98,10 @@ pub type SlotList = Listed<SlotRow>;
 /// The script of each vCPU.
 pub type ScriptList = Listed<Script>;
 
-/// What a guest file says.
+/// What a guest file says. Version 1 has the address space 0 alone, version 2 the spaces 0 and 1.
 #[derive(Debug, Drop, PartialEq)]
 pub struct Guest {
+    pub version: u32,
     pub settings: Settings,
     pub slots: SlotList,
     pub scripts: ScriptList,
@@ -124,6 +146,7 @@ impl Clone for Guest {
 
     fn clone(&self) -> Result<Guest, AllocError> {
         Ok(Guest {
+            version: self.version,
             settings: self.settings,
             slots: self.slots.clone()?,
             scripts: self.scripts.clone()?,

@@ -5,7 +5,7 @@ use Rattle.dr_guestfile.proofs.slot_lines.slots.Given as goal
 abbrev pub invariant-loop-line : goal.invariant-loop-line
 invariant-loop-line l = record {
   slots : AreInBounds l.rows;
-  left : slots_from l.rounds l.rows l.input.lines l.input.past ≡ slots_in l.rounds l.fn.input;
+  left : slots_from l.version l.rounds l.rows l.input.lines l.input.past ≡ slots_in l.version l.rounds l.fn.input;
 }
 
 abbrev pub decreases-loop-line : goal.decreases-loop-line
